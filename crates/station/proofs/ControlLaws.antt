@@ -1,0 +1,68 @@
+-- Z and C keep a fit block fit and its module the same; a module just put in is fit.
+-- Assumes nothing.
+use Prim.Native.Nat.{ℕ, zero, suc, _+_, _≤_, _<_}
+use mathlib.Core.Path.{_≡_, refl, sym, ap, _∙_}
+use mathlib.Core.List.{List, [], _∷_}
+use native.Mathlib.Omega.{arith}
+use native.Mathlib.Numerals.{add-one}
+use lib.ListN.{getD, replicate, getD-replicate}
+use lib.Seq.{getD-append-add}
+use lib.Pow.{pow-pos}
+use Rattle.station.specs.Block.{countOf, sourcesOf, leastOf, mostOf, FitBlock}
+use Rattle.station.specs.Outcome.{Outcome}
+use Rattle.station.specs.Command.{commandOf}
+use Rattle.station.specs.Control.{initializedOf, clearedBelow, clearedOf, moduleOf}
+use Rattle.station.specs.Kept.{Kept}
+use Rattle.station.specs.declared.Reply.{Reply}
+use Rattle.station.proofs.KindTable.{sources-few, count-few}
+use Rattle.station.proofs.BlockLaws.{kept-here, kept-then, kept-zeroed}
+use Rattle.station.proofs.CommandLaws.{command-kept}
+
+-- Z
+pub initialized-kept : (b : List ℕ) → FitBlock b → Kept b (initializedOf b)
+initialized-kept b f = kept-zeroed b 0 0 f (pow-pos (sourcesOf b)) (pow-pos (sourcesOf b))
+
+-- C
+pub cleared-below-kept : (k : ℕ) (b : List ℕ) → FitBlock b → k ≤ 16 → Kept b (clearedBelow k b)
+unfolding clearedBelow
+cleared-below-kept zero b f h = kept-here f
+cleared-below-kept (suc k) b f h =
+    let p = cleared-below-kept k b f (omega arith) in
+    kept-then p (command-kept (clearedBelow k b) (p .fit) k (omega arith) 9 0 (omega arith))
+
+pub cleared-kept : (b : List ℕ) → FitBlock b → Kept b (clearedOf b)
+cleared-kept b f = cleared-below-kept (countOf b) b f (count-few b f)
+
+-- F9 at one A more, from what `command` ensures
+pub cleared-none : (b : List ℕ) → b ≡ clearedBelow 0 b
+unfolding clearedBelow
+cleared-none b = refl
+
+pub cleared-more : (b₀ b c : List ℕ) (a : ℕ) (r : Reply) → b ≡ clearedBelow a b₀ → commandOf b a 9 0 ≡ record { block = c; reply = r } → c ≡ clearedBelow (a + 1) b₀
+unfolding clearedBelow
+cleared-more b₀ b c a r e h =
+    rw (add-one a) (sym (ap (λ (o : Outcome). o .block) h) ∙ ap (λ (x : List ℕ). commandOf x a 9 0 .block) e)
+
+-- a module just put in
+module _ (kind r : ℕ) where
+  module-zero : (j : ℕ) → j < 30 → getD (moduleOf kind r) (2 + j) 0 ≡ 0
+  module-zero j h = getD-append-add (kind ∷ r ∷ []) (replicate 30 0) j 0 ∙ getD-replicate 30 j 0 0 h
+
+  pub module-fit : kind < 6 → leastOf kind ≤ r → r ≤ mostOf kind → FitBlock (moduleOf kind r)
+  module-fit k lo hi =
+      record {
+        long = refl;
+        kind = k;
+        least = lo;
+        most = hi;
+        status = pow-pos (sourcesOf (moduleOf kind r));
+        mask = pow-pos (sourcesOf (moduleOf kind r));
+        lastHead = omega arith;
+        mostFill = omega arith;
+        spare = λ i h. let e : 6 + i ≡ 2 + (4 + i) = omega arith in rw e (module-zero (4 + i) (omega arith));
+        register = λ i h. let e : 16 + i ≡ 2 + (14 + i) = omega arith in rw (e, module-zero (14 + i) (omega arith)) (omega arith);
+        unused = λ i h u. let e : 16 + i ≡ 2 + (14 + i) = omega arith in rw e (module-zero (14 + i) (omega arith));
+        sources = sources-few (moduleOf kind r) hi;
+        head = omega arith;
+        fill = omega arith;
+      }

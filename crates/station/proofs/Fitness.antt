@@ -1,0 +1,117 @@
+-- The test `isFitBlock` and the facts `FitBlock` say the same of a block.
+-- Assumes nothing.
+use Prim.Native.Nat.{ℕ, _+_, _≤_, _<_, _^_}
+use mathlib.Core.Path.{_≡_, refl, sym, ap, _∙_}
+use mathlib.Core.List.{List, [], _∷_}
+use mathlib.Core.Bool.{Bool, true, false, cond, _&&_, _||_}
+use mathlib.Core.Logic.{⊎-elim}
+use native.Mathlib.Omega.{arith}
+use borrow.Author.Tests.{ltb-true, leb-true, eqb-true, lt-ltb, le-leb, lt-leb, eq-eqb}
+use lib.ListN.{length, getD}
+use lib.Dec.{leb, ltb, eqb}
+use Rattle.station.specs.Cases.{allOf, every}
+use Rattle.station.specs.Block.{kindOf, countOf, statusOf, maskOf, headOf, fillOf, spareOf, registerOf, sourcesOf, isUsed, leastOf, mostOf, lastHeadOf, mostFillOf, headerTests, isFitHeader, isFitSpare, isFitRegister, fitTests, isFitBlock, FitBlock}
+use Rattle.station.proofs.KindTable.{sources-few, head-few, fill-few}
+use Rattle.station.proofs.TestLaws.{both-fst, both-snd, every-at, every-intro, by-cases, both-true, all-true, all-intro, decided}
+
+-- what the header's test says
+pub record Header (b : List ℕ) : Type 0 where
+  pub kind : kindOf b < 6
+  pub least : leastOf (kindOf b) ≤ countOf b
+  pub most : countOf b ≤ mostOf (kindOf b)
+  pub status : statusOf b < 2 ^ sourcesOf b
+  pub mask : maskOf b < 2 ^ sourcesOf b
+  pub lastHead : headOf b ≤ lastHeadOf (kindOf b)
+  pub mostFill : fillOf b ≤ mostFillOf (kindOf b)
+
+pub header-facts : (b : List ℕ) → isFitHeader b ≡ true → Header b
+unfolding isFitHeader headerTests
+header-facts b h =
+    let p = all-true (headerTests b) h in
+    record {
+      kind = ltb-true _ _ (p .0);
+      least = leb-true _ _ (p .1 .0);
+      most = leb-true _ _ (p .1 .1 .0);
+      status = ltb-true _ _ (p .1 .1 .1 .0);
+      mask = ltb-true _ _ (p .1 .1 .1 .1 .0);
+      lastHead = leb-true _ _ (p .1 .1 .1 .1 .1 .0);
+      mostFill = leb-true _ _ (p .1 .1 .1 .1 .1 .1 .0);
+    }
+
+pub header-head : (b : List ℕ) → isFitHeader b ≡ true → headOf b < 16
+header-head b h = let f = header-facts b h in omega (arith, head-few (kindOf b))
+
+-- where all tests but the last hold, the last decides
+module _
+    (b : List ℕ)
+    (kind : kindOf b < 6)
+    (least : leastOf (kindOf b) ≤ countOf b)
+    (most : countOf b ≤ mostOf (kindOf b))
+    (status : statusOf b < 2 ^ sourcesOf b)
+    (mask : maskOf b < 2 ^ sourcesOf b)
+  where
+    pub header-no-head : lastHeadOf (kindOf b) < headOf b → isFitHeader b ≡ false
+    unfolding isFitHeader headerTests
+    header-no-head h = simp (lt-ltb _ _ kind, le-leb _ _ least, le-leb _ _ most, lt-ltb _ _ status, lt-ltb _ _ mask, lt-leb _ _ h)
+
+    pub header-last : headOf b ≤ lastHeadOf (kindOf b) → isFitHeader b ≡ leb (fillOf b) (mostFillOf (kindOf b))
+    unfolding isFitHeader headerTests
+    header-last h = simp (lt-ltb _ _ kind, le-leb _ _ least, le-leb _ _ most, lt-ltb _ _ status, lt-ltb _ _ mask, le-leb _ _ h, both-true)
+
+-- the facts behind the test of a place
+register-small : (b : List ℕ) (i : ℕ) → isFitRegister b i ≡ true → registerOf b i < 2 ^ 24
+unfolding isFitRegister
+register-small b i h = ltb-true _ _ (both-fst (ltb (registerOf b i) (2 ^ 24)) ((isUsed b i || eqb (registerOf b i) 0)) h)
+
+register-unused : (b : List ℕ) (i : ℕ) → isFitRegister b i ≡ true → isUsed b i ≡ false → registerOf b i ≡ 0
+unfolding isFitRegister
+register-unused b i h e = eqb-true _ _ (rw e at (both-snd (ltb (registerOf b i) (2 ^ 24)) ((isUsed b i || eqb (registerOf b i) 0)) h))
+
+spare-zero : (b : List ℕ) (i : ℕ) → isFitSpare b i ≡ true → spareOf b i ≡ 0
+unfolding isFitSpare
+spare-zero b i h = eqb-true _ _ h
+
+-- a block that passes the test is as the facts say
+pub fit-facts : (b : List ℕ) → isFitBlock b ≡ true → FitBlock b
+unfolding isFitBlock fitTests
+fit-facts b h =
+    let p = all-true (fitTests b) h in
+    let f = header-facts b (p .1 .0) in
+    record {
+      long = eqb-true _ _ (p .0);
+      kind = f .kind;
+      least = f .least;
+      most = f .most;
+      status = f .status;
+      mask = f .mask;
+      lastHead = f .lastHead;
+      mostFill = f .mostFill;
+      spare = λ i l. spare-zero b i (every-at 10 (isFitSpare b) i (p .1 .1 .0) l);
+      register = λ i l. register-small b i (every-at 16 (isFitRegister b) i (p .1 .1 .1 .0) l);
+      unused = λ i l e. register-unused b i (every-at 16 (isFitRegister b) i (p .1 .1 .1 .0) l) e;
+      sources = sources-few b (f .most);
+      head = omega (arith, head-few (kindOf b));
+      fill = omega (arith, fill-few (kindOf b));
+    }
+
+register-fits : (b : List ℕ) (i : ℕ) → registerOf b i < 2 ^ 24 → (isUsed b i ≡ false → registerOf b i ≡ 0) → isFitRegister b i ≡ true
+unfolding isFitRegister
+register-fits b i l f =
+    simp (lt-ltb _ _ l)
+    (⊎-elim (λ (e : isUsed b i ≡ true). rw e) (λ (e : isUsed b i ≡ false). rw e (eq-eqb _ _ (f e))) (decided (isUsed b i)))
+
+-- and a block that is so passes it
+pub facts-fit : (b : List ℕ) → FitBlock b → isFitBlock b ≡ true
+unfolding isFitBlock fitTests isFitHeader headerTests isFitSpare
+facts-fit b f =
+    all-intro (fitTests b) (
+      eq-eqb _ _ (f .long),
+      (
+        all-intro (headerTests b)
+            (lt-ltb _ _ (f .kind), (le-leb _ _ (f .least), (le-leb _ _ (f .most), (lt-ltb _ _ (f .status), (lt-ltb _ _ (f .mask), (le-leb _ _ (f .lastHead), (le-leb _ _ (f .mostFill), tt))))))),
+        (
+          every-intro 10 (isFitSpare b) (λ i l. eq-eqb _ _ (f .spare i l)),
+          (every-intro 16 (isFitRegister b) (λ i l. register-fits b i (f .register i l) (f .unused i l)), tt),
+        ),
+      ),
+    )

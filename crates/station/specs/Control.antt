@@ -1,0 +1,24 @@
+-- The common controls at a station (01, 'Front panel and common controls'), and the block of a module just put in.
+-- Assumes nothing.
+use Prim.Native.Nat.{ℕ, zero, suc}
+use mathlib.Core.List.{List, [], _∷_}
+use lib.ListN.{replicate}
+use Rattle.station.specs.Block.{countOf, zeroedOf}
+use Rattle.station.specs.Command.{commandOf}
+
+-- Z zeroes every register, status, mask, head and fill
+abbrev pub initializedOf : List ℕ → List ℕ
+initializedOf b = zeroedOf b 0 0
+
+-- F9 at each A below k
+unfoldable pub clearedBelow : ℕ → List ℕ → List ℕ
+clearedBelow zero b = b
+clearedBelow (suc k) b = commandOf (clearedBelow k b) k 9 0 .block
+
+-- C does F9 at each A below r
+abbrev pub clearedOf : List ℕ → List ℕ
+clearedOf b = clearedBelow (countOf b) b
+
+-- a module with r registers, all else 0; an empty station is kind 0 with r 0
+abbrev pub moduleOf : (kind r : ℕ) → List ℕ
+moduleOf kind r = kind ∷ r ∷ replicate 30 0

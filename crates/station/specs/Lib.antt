@@ -1,0 +1,11 @@
+pub mod Cases
+pub mod Block
+pub mod Outcome
+pub mod Buffer
+pub mod Group1
+pub mod Lam
+pub mod Group2
+pub mod Command
+pub mod Front
+pub mod Control
+pub mod Kept

@@ -1,0 +1,54 @@
+// One station of the crate: the 32 functions, over the station's lent block of 32 words.
+ghost use mathlib.Core.Path.{_≡_};
+ghost use Prim.Native.Nat.{_<_, _^_};
+ghost use Rattle.station.specs.Block.{FitBlock};
+ghost use Rattle.station.specs.Outcome.{Outcome};
+ghost use Rattle.station.specs.Command.{commandOf};
+
+pub mod block;
+pub mod buffer;
+pub mod group1;
+pub mod group2;
+pub mod lam;
+
+// The answer to a command: Command Accepted, Response and read word.
+pub struct Reply {
+    pub x: u32,
+    pub q: u32,
+    pub r: u32,
+}
+
+// Not accepted.
+pub const NOT_ACCEPTED: Reply = Reply { x: 0, q: 0, r: 0 };
+
+// Accepted, with nothing to read.
+pub const DONE: Reply = Reply { x: 1, q: 1, r: 0 };
+
+// One command to the station: subaddress a, function f, write word w.
+pub fn command(b: &mut [u32], a: u32, f: u32, w: u32) -> Reply
+    requires { ⌜ FitBlock (now b) ⌝ ∗ ⌜ a < 16 ⌝ ∗ ⌜ f < 32 ⌝ ∗ ⌜ w < 2 ^ 24 ⌝ }
+    ensures { λ r. ⌜ commandOf (now (b .entry)) a f w ≡ record { block = now (b .exit); reply = r } ⌝ }
+{
+    match f {
+        0 => group1::read(b, a),
+        1 => group2::read(b, a),
+        2 => group1::read_and_clear(b, a),
+        3 => group1::read_complement(b, a),
+        8 => lam::test_lam(b, a),
+        9 => group1::clear(b, a),
+        10 => lam::clear_lam(b, a),
+        11 => group2::clear(b, a),
+        16 => group1::overwrite(b, a, w),
+        17 => group2::overwrite(b, a, w),
+        18 => group1::selective_set(b, a, w),
+        19 => group2::selective_set(b, a, w),
+        21 => group1::selective_clear(b, a, w),
+        23 => group2::selective_clear(b, a, w),
+        24 => lam::disable(b, a),
+        25 => group1::execute(b, a),
+        26 => lam::enable(b, a),
+        27 => lam::test_status(b, a),
+        4..=7 | 12..=15 | 20 | 22 | 28..=31 => NOT_ACCEPTED,
+        _ => NOT_ACCEPTED,
+    }
+}

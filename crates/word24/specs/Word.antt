@@ -1,0 +1,34 @@
+-- The arithmetic of 24-bit words, and words by their bits, bit 0 the lowest. The laws bit by bit are in proofs/BitLaws.antt.
+-- Assumes nothing.
+use mathlib.Core.Bool.{Bool}
+use Prim.Native.Nat.{ℕ, _+_, _-_, _/_, _%_, _^_}
+use lib.Bits.{bitAnd, bitOr}
+use lib.Dec.{leb}
+
+-- the sum modulo 2^24
+abbrev pub sumOf : ℕ → ℕ → ℕ
+sumOf old v = (old + v) % 2 ^ 24
+
+-- whether old + v reaches 2^24
+abbrev pub carryOf : ℕ → ℕ → Bool
+carryOf old v = leb (2 ^ 24) (old + v)
+
+-- the 24-bit complement: each 0 of x made 1 and each 1 made 0
+abbrev pub complementOf : ℕ → ℕ
+complementOf x = 2 ^ 24 - 1 - x
+
+-- x with the bits set that are 1 in w
+abbrev pub setBits : ℕ → ℕ → ℕ
+setBits x w = bitOr x w
+
+-- x with the bits cleared that are 1 in w
+unfoldable pub clearBits : ℕ → ℕ → ℕ
+clearBits x w = x - bitAnd x w
+
+-- bit a of x, 0 or 1
+abbrev pub bitOf : ℕ → ℕ → ℕ
+bitOf a x = x / 2 ^ a % 2
+
+-- the bits of w below s
+abbrev pub lowBits : ℕ → ℕ → ℕ
+lowBits s w = w % 2 ^ s
