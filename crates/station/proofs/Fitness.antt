@@ -41,22 +41,25 @@ header-facts b h =
 pub header-head : (b : List ℕ) → isFitHeader b ≡ true → headOf b < 16
 header-head b h = let f = header-facts b h in omega (arith, head-few (kindOf b))
 
--- where all tests but the last hold, the last decides
-module _
-    (b : List ℕ)
-    (kind : kindOf b < 6)
-    (least : leastOf (kindOf b) ≤ countOf b)
-    (most : countOf b ≤ mostOf (kindOf b))
-    (status : statusOf b < 2 ^ sourcesOf b)
-    (mask : maskOf b < 2 ^ sourcesOf b)
-  where
-    pub header-no-head : lastHeadOf (kindOf b) < headOf b → isFitHeader b ≡ false
-    unfolding isFitHeader headerTests
-    header-no-head h = simp (lt-ltb _ _ kind, le-leb _ _ least, le-leb _ _ most, lt-ltb _ _ status, lt-ltb _ _ mask, lt-leb _ _ h)
+-- the tests one after the other: the first that fails decides, and where all but the last hold, the last
+module _ (b : List ℕ) (kind : kindOf b < 6) (least : leastOf (kindOf b) ≤ countOf b) (most : countOf b ≤ mostOf (kindOf b)) where
+  pub header-no-status : ltb (statusOf b) (2 ^ sourcesOf b) ≡ false → isFitHeader b ≡ false
+  unfolding isFitHeader headerTests
+  header-no-status h = simp (lt-ltb _ _ kind, le-leb _ _ least, le-leb _ _ most, h)
 
-    pub header-last : headOf b ≤ lastHeadOf (kindOf b) → isFitHeader b ≡ leb (fillOf b) (mostFillOf (kindOf b))
+  module _ (status : ltb (statusOf b) (2 ^ sourcesOf b) ≡ true) where
+    pub header-no-mask : ltb (maskOf b) (2 ^ sourcesOf b) ≡ false → isFitHeader b ≡ false
     unfolding isFitHeader headerTests
-    header-last h = simp (lt-ltb _ _ kind, le-leb _ _ least, le-leb _ _ most, lt-ltb _ _ status, lt-ltb _ _ mask, le-leb _ _ h, both-true)
+    header-no-mask h = simp (lt-ltb _ _ kind, le-leb _ _ least, le-leb _ _ most, status, h)
+
+    module _ (mask : ltb (maskOf b) (2 ^ sourcesOf b) ≡ true) where
+      pub header-no-head : lastHeadOf (kindOf b) < headOf b → isFitHeader b ≡ false
+      unfolding isFitHeader headerTests
+      header-no-head h = simp (lt-ltb _ _ kind, le-leb _ _ least, le-leb _ _ most, status, mask, lt-leb _ _ h)
+
+      pub header-last : headOf b ≤ lastHeadOf (kindOf b) → isFitHeader b ≡ leb (fillOf b) (mostFillOf (kindOf b))
+      unfolding isFitHeader headerTests
+      header-last h = simp (lt-ltb _ _ kind, le-leb _ _ least, le-leb _ _ most, status, mask, le-leb _ _ h, both-true)
 
 -- the facts behind the test of a place
 register-small : (b : List ℕ) (i : ℕ) → isFitRegister b i ≡ true → registerOf b i < 2 ^ 24

@@ -40,8 +40,8 @@ pub fn sources(b: &[u32]) -> u32
 {
     let kind = b[KIND];
     match kind {
-        1 | 3 | 5 => b[COUNT],
-        4 => 2,
+        SCALER | INPUT_REGISTER | UP_DOWN_COUNTER => b[COUNT],
+        BUFFER_MEMORY => 2,
         _ => 0,
     }
 }

@@ -13,6 +13,7 @@ use crate::block::KIND;
 use crate::block::OUTPUT_REGISTER;
 use crate::block::REGISTERS;
 use crate::block::SCALER;
+use crate::block::UP_DOWN_COUNTER;
 use crate::block::set_status_bit;
 use crate::buffer;
 use word24::word::add24;
@@ -102,7 +103,7 @@ pub fn overwrite(b: &mut [u32], a: u32, w: u32) -> Reply
         return NOT_ACCEPTED;
     }
     match kind {
-        2 | 5 => {
+        OUTPUT_REGISTER | UP_DOWN_COUNTER => {
             b[REGISTERS + a as usize] = w;
             DONE
         }

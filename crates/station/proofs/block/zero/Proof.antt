@@ -1,10 +1,10 @@
--- `zero` meets its contract: after i turns the slice is i zeros and the rest as it was.
-use borrow.Author.Needs.{needs}
-use borrow.Author.Fill.{fill-none, fill-more}
-use native.Mathlib.Omega.{arith}
-use mathlib.Core.Path.{_≡_, refl, ap, sym, _∙_}
-use mathlib.Core.List.{List, [], _++_, append-nil}
+-- `zero` meets its contract: after i turns the slice is i zeros and then the rest as it was.
 use Prim.Native.Nat.{ℕ, _≤_, _-_}
+use mathlib.Core.Path.{_≡_, refl, ap, _∙_}
+use mathlib.Core.List.{List, _++_, append-nil}
+use native.Mathlib.Omega.{arith}
+use borrow.Author.Needs.{needs}
+use borrow.Author.Fill.{fill-more}
 use lib.ListN.{length, drop, replicate, length-set, drop-of-length-le}
 use Rattle.station.proofs.block.zero.Statement.{statement}
 use Rattle.station.proofs.block.zero.Tie as tie
@@ -45,7 +45,8 @@ returns c =
     let n = c .before .loop .i in
     let s₀ = c .before .before .args .s .now in
     let e : n ≡ length s₀ = omega arith in
-    c .before .loop .inv .2 ∙ ap (λ (t : List ℕ). replicate n 0 ++ t) (drop-of-length-le s₀ {i = n} (omega arith)) ∙ append-nil _ ∙ ap (λ (k : ℕ). replicate k 0) e
+    c .before .loop .inv .2 ∙ ap (λ (t : List ℕ). replicate n 0 ++ t) (drop-of-length-le s₀ {i = n} (omega arith)) ∙ append-nil _
+    ∙ ap (λ (k : ℕ). replicate k 0) e
 
 pub zero-spec : {M : Type 1} → statement M
 zero-spec =

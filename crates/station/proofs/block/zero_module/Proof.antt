@@ -1,56 +1,48 @@
-use Rattle.station.proofs.BlockLaws.{tail-zeroed, header-zeroed}
-use Rattle.station.specs.Block.{withStatus, withMask, withHead, withFill}
-use lib.ListN.{length-set}
+-- `zero_module` meets its contract: words 2 to 5 are stored, and the part from word 16 on comes back all zero.
 use mathlib.Core.Path.{_∙_}
 use native.Mathlib.Omega.{arith}
 use borrow.Author.Needs.{needs}
+use lib.ListN.{length-set}
+use Rattle.station.proofs.BlockLaws.{tail-zeroed, header-zeroed}
+use Rattle.station.specs.Block.{withStatus, withMask, withHead, withFill}
 use Rattle.station.proofs.block.zero_module.Statement.{statement}
 use Rattle.station.proofs.block.zero_module.Tie as tie
-use Rattle.station.proofs.block.zero_module.Reads as reads
-use Rattle.station.proofs.block.zero_module.Lts as lts
-use Rattle.station.proofs.block.zero.Reads as zero-reads
 
--- src/block.rt:74:5
 slice-write-b : tie.Need-slice-write-b
 slice-write-b c = search needs
 
--- src/block.rt:75:5
 slice-write-b-2 : tie.Need-slice-write-b-2
 slice-write-b-2 c = search needs
 
--- src/block.rt:76:5
 slice-write-b-3 : tie.Need-slice-write-b-3
 slice-write-b-3 c = search needs
 
--- src/block.rt:77:5
 slice-write-b-4 : tie.Need-slice-write-b-4
 slice-write-b-4 c = search needs
 
--- src/block.rt:78:10
 sub-zero : tie.Need-sub-zero
 sub-zero c = simp length-set (omega arith)
 
--- src/block.rt:78:10
 part-zero-start : tie.Need-part-zero-start
 part-zero-start c = simp length-set (omega arith)
 
--- src/block.rt:78:10
 part-zero-end : tie.Need-part-zero-end
 part-zero-end c = search needs
 
--- src/block.rt:78:5
 zero-requires : tie.Need-zero-requires
 zero-requires c κs = search needs
 
--- src/block.rt:70:1
 same-length : tie.Need-same-length
 same-length c = (c .before .b .given .1) ∙ simp length-set
 
--- src/block.rt:70:1
 returns : tie.Need-returns
 returns c = let b = (c .before .before .before .before .before .args .b .now) in
-    tail-zeroed (withFill (withHead (withMask (withStatus b (c .before .before .before .before .before .args .status)) (c .before .before .before .before .before .args .mask)) 0) 0) (c .before .before .zero .last .0) (simp length-set (c .before .before .before .before .before .pre)) (c .before .before .zero .ensures)
-    ∙ header-zeroed b (c .before .before .before .before .before .args .status) (c .before .before .before .before .before .args .mask) (c .before .before .before .before .before .pre)
+    tail-zeroed (withFill
+    (withHead (withMask (withStatus b (c .before .before .before .before .before .args .status))
+    (c .before .before .before .before .before .args .mask)) 0) 0) (c .before .before .zero .last .0)
+    (simp length-set (c .before .before .before .before .before .pre)) (c .before .before .zero .ensures)
+    ∙ header-zeroed b (c .before .before .before .before .before .args .status) (c .before .before .before .before .before .args .mask)
+    (c .before .before .before .before .before .pre)
 
 pub zero-module-spec : {M : Type 1} → statement M
 zero-module-spec =

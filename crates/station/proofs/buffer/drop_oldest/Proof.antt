@@ -1,81 +1,61 @@
+-- `drop_oldest` meets its contract: the stores are those of the definition, and status bit 0 is cleared where fill was 1.
 use native.Mathlib.Omega.{arith}
-use lib.ListN.{length-set}
-use Rattle.station.specs.Buffer.{withoutOldest}
-use mathlib.Core.Path.{ap}
 use borrow.Author.Tests.{eq-eqb, ne-eqb}
 use borrow.Author.Needs.{needs}
+use lib.ListN.{length-set}
+use Rattle.station.specs.Buffer.{withoutOldest}
 use Rattle.station.proofs.buffer.drop_oldest.Statement.{statement}
 use Rattle.station.proofs.buffer.drop_oldest.Tie as tie
-use Rattle.station.proofs.buffer.drop_oldest.Reads as reads
-use Rattle.station.proofs.buffer.drop_oldest.Lts as lts
-use Rattle.word24.proofs.word.without_bit.Reads as without-bit-reads
 
--- src/buffer.rt:65:16
 slice-read-head : tie.Need-slice-read-head
 slice-read-head c = search needs
 
--- src/buffer.rt:66:16
 slice-read-fill : tie.Need-slice-read-fill
 slice-read-fill c = search needs
 
--- src/buffer.rt:67:19
 cast-b : tie.Need-cast-b
 cast-b c = search needs
 
--- src/buffer.rt:67:7
 add-b : tie.Need-add-b
 add-b c = search needs
 
--- src/buffer.rt:67:5
 mul-b : tie.Need-mul-b
 mul-b c = search needs
 
--- src/buffer.rt:67:5
 slice-write-b : tie.Need-slice-write-b
 slice-write-b c = search needs
 
--- src/buffer.rt:68:16
 add-b-2 : tie.Need-add-b-2
 add-b-2 c = search needs
 
--- src/buffer.rt:68:5
 slice-write-b-2 : tie.Need-slice-write-b-2
 slice-write-b-2 c = search needs
 
--- src/buffer.rt:69:15
 sub-b : tie.Need-sub-b
 sub-b c = search needs
 
--- src/buffer.rt:69:5
 slice-write-b-3 : tie.Need-slice-write-b-3
 slice-write-b-3 c = search needs
 
--- src/buffer.rt:71:22
 slice-read-status : tie.Need-slice-read-status
 slice-read-status c = simp length-set (omega (arith, (c .before .before .before .before .before .pre .0 .long)))
 
--- src/buffer.rt:72:21
 without-bit-requires : tie.Need-without-bit-requires
 without-bit-requires c κs = search needs
 
--- src/buffer.rt:72:9
 slice-write-b-4 : tie.Need-slice-write-b-4
 slice-write-b-4 c = simp length-set (omega (arith, (c .before .before .before .before .before .before .pre .0 .long)))
 
--- src/buffer.rt:61:1
 same-length : tie.Need-same-length
 same-length c = search needs
 
--- src/buffer.rt:61:1
 returns : tie.Need-returns
 unfolding withoutOldest
 returns c = simp (eq-eqb _ _ (c .before .before .if1 .taken), (c .without-bit .ensures))
 
--- src/buffer.rt:61:1
 same-length-2 : tie.Need-same-length-2
 same-length-2 c = search needs
 
--- src/buffer.rt:61:1
 returns-2 : tie.Need-returns-2
 unfolding withoutOldest
 returns-2 c = simp (ne-eqb _ _ (c .if1 .left))

@@ -1,46 +1,36 @@
-use Rattle.station.specs.Buffer.{bufferReadOf}
+-- `read` meets its contract: the two tests that return are those of the definition, and the last word is the one at head.
 use borrow.Author.Tests.{eq-eqb, ne-eqb}
 use borrow.Author.Needs.{needs}
+use Rattle.station.specs.Buffer.{bufferReadOf}
 use Rattle.station.proofs.buffer.read.Statement.{statement}
 use Rattle.station.proofs.buffer.read.Tie as tie
-use Rattle.station.proofs.buffer.read.Reads as reads
-use Rattle.station.proofs.buffer.read.Lts as lts
 
--- src/buffer.rt:28:9
 returns : tie.Need-returns
 unfolding bufferReadOf
 returns c = simp (ne-eqb _ _ (c .if1 .taken))
 
--- src/buffer.rt:30:8
 shared-slice-read-if2 : tie.Need-shared-slice-read-if2
 shared-slice-read-if2 c = search needs
 
--- src/buffer.rt:31:9
 returns-2 : tie.Need-returns-2
 unfolding bufferReadOf
 returns-2 c = simp (eq-eqb _ _ (c .before .before .if1 .left), eq-eqb _ _ (c .if2 .taken))
 
--- src/buffer.rt:33:25
 shared-slice-read-i : tie.Need-shared-slice-read-i
 shared-slice-read-i c = search needs
 
--- src/buffer.rt:33:25
 cast-i : tie.Need-cast-i
 cast-i c = search needs
 
--- src/buffer.rt:33:13
 add-i : tie.Need-add-i
 add-i c = search needs
 
--- src/buffer.rt:37:12
 mul-t8 : tie.Need-mul-t8
 mul-t8 c = search needs
 
--- src/buffer.rt:37:12
 shared-slice-read-t6 : tie.Need-shared-slice-read-t6
 shared-slice-read-t6 c = search needs
 
--- src/buffer.rt:23:1
 returns-3 : tie.Need-returns-3
 unfolding bufferReadOf
 returns-3 c = simp (eq-eqb _ _ (c .before .before .before .before .if1 .left), ne-eqb _ _ (c .before .before .if2 .left))

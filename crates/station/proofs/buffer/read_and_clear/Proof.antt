@@ -1,58 +1,49 @@
-use Rattle.station.specs.Buffer.{bufferReadAndClearOf}
+-- `read_and_clear` meets its contract: the word at head is read before `drop_oldest` takes it out.
 use borrow.Author.Tests.{eq-eqb, ne-eqb}
 use borrow.Author.Needs.{needs}
+use Rattle.station.specs.Buffer.{bufferReadAndClearOf}
 use Rattle.station.proofs.buffer.read_and_clear.Statement.{statement}
 use Rattle.station.proofs.buffer.read_and_clear.Tie as tie
-use Rattle.station.proofs.buffer.read_and_clear.Reads as reads
-use Rattle.station.proofs.buffer.read_and_clear.Lts as lts
-use Rattle.station.proofs.buffer.drop_oldest.Reads as drop-oldest-reads
 
--- src/buffer.rt:82:9
 returns : tie.Need-returns
 unfolding bufferReadAndClearOf
 returns c = simp (ne-eqb _ _ (c .if1 .taken))
 
--- src/buffer.rt:84:8
 slice-read-if2 : tie.Need-slice-read-if2
 slice-read-if2 c = search needs
 
--- src/buffer.rt:85:9
 returns-2 : tie.Need-returns-2
 unfolding bufferReadAndClearOf
 returns-2 c = simp (eq-eqb _ _ (c .before .before .if1 .left), eq-eqb _ _ (c .if2 .taken))
 
--- src/buffer.rt:87:25
 slice-read-i : tie.Need-slice-read-i
 slice-read-i c = search needs
 
--- src/buffer.rt:87:25
 cast-i : tie.Need-cast-i
 cast-i c = search needs
 
--- src/buffer.rt:87:13
 add-i : tie.Need-add-i
 add-i c = search needs
 
--- src/buffer.rt:88:16
 mul-word : tie.Need-mul-word
 mul-word c = search needs
 
--- src/buffer.rt:88:16
 slice-read-word : tie.Need-slice-read-word
 slice-read-word c = search needs
 
--- src/buffer.rt:89:5
 drop-oldest-requires : tie.Need-drop-oldest-requires
 drop-oldest-requires c κs = search needs
 
--- src/buffer.rt:77:1
 same-length : tie.Need-same-length
 same-length c = search needs
 
--- src/buffer.rt:77:1
 returns-3 : tie.Need-returns-3
 unfolding bufferReadAndClearOf
-returns-3 c = simp (eq-eqb _ _ (c .before .before .before .before .before .before .before .before .if1 .left), ne-eqb _ _ (c .before .before .before .before .before .before .if2 .left), (c .before .before .drop-oldest .ensures))
+returns-3 c = simp (
+  eq-eqb _ _ (c .before .before .before .before .before .before .before .before .if1 .left),
+  ne-eqb _ _ (c .before .before .before .before .before .before .if2 .left),
+  (c .before .before .drop-oldest .ensures),
+)
 
 pub read-and-clear-spec : {M : Type 1} → statement M
 read-and-clear-spec =

@@ -1,60 +1,51 @@
+-- `clear` meets its contract: a buffer memory has its own rule; of another module the register is zeroed.
+use borrow.Author.Tests.{eq-eqb, ne-eqb, lt-ltb, le-ltb}
+use borrow.Author.Needs.{needs}
 use Rattle.station.proofs.KindTable.{register-kind}
 use Rattle.station.proofs.TestLaws.{both-false}
 use Rattle.station.specs.Group1.{clearOf}
-use borrow.Author.Tests.{eq-eqb, ne-eqb, lt-ltb, le-ltb}
-use borrow.Author.Needs.{needs}
 use Rattle.station.proofs.group1.clear.Statement.{statement}
 use Rattle.station.proofs.group1.clear.Tie as tie
-use Rattle.station.proofs.group1.clear.Reads as reads
-use Rattle.station.proofs.group1.clear.Lts as lts
-use Rattle.station.proofs.buffer.clear.Reads as clear-reads
 
--- src/group1.rt:85:8
 slice-read-if1 : tie.Need-slice-read-if1
 slice-read-if1 c = search needs
 
--- src/group1.rt:86:9
 clear-requires : tie.Need-clear-requires
 clear-requires c κs = search needs
 
--- src/group1.rt:86:9
 same-length : tie.Need-same-length
 same-length c = search needs
 
--- src/group1.rt:86:9
 returns : tie.Need-returns
 unfolding clearOf
 returns c = simp (eq-eqb _ _ (c .before .before .before .before .if1 .taken)) (c .before .before .clear .ensures)
 
--- src/group1.rt:88:8
 slice-read-if2 : tie.Need-slice-read-if2
 slice-read-if2 c = search needs
 
--- src/group1.rt:89:9
 returns-2 : tie.Need-returns-2
 unfolding clearOf
 returns-2 c = simp (ne-eqb _ _ (c .before .before .if1 .left), le-ltb _ _ (c .if2 .taken), both-false)
 
--- src/group1.rt:91:7
 add-b : tie.Need-add-b
 add-b c = search needs
 
--- src/group1.rt:91:5
 mul-b : tie.Need-mul-b
 mul-b c = search needs
 
--- src/group1.rt:91:5
 slice-write-b : tie.Need-slice-write-b
 slice-write-b c = search needs
 
--- src/group1.rt:81:1
 same-length-2 : tie.Need-same-length-2
 same-length-2 c = search needs
 
--- src/group1.rt:81:1
 returns-3 : tie.Need-returns-3
 unfolding clearOf
-returns-3 c = simp (register-kind _ _ (c .before .before .before .before .before .pre .0) (c .before .before .if1 .left) (c .if2 .left), ne-eqb _ _ (c .before .before .if1 .left), lt-ltb _ _ (c .if2 .left))
+returns-3 c = simp (
+  register-kind _ _ (c .before .before .before .before .before .pre .0) (c .before .before .if1 .left) (c .if2 .left),
+  ne-eqb _ _ (c .before .before .if1 .left),
+  lt-ltb _ _ (c .if2 .left),
+)
 
 pub clear-spec : {M : Type 1} → statement M
 clear-spec =

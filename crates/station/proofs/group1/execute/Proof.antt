@@ -1,43 +1,38 @@
-use Rattle.station.proofs.TestLaws.{both-false}
-use Rattle.station.specs.Group1.{executeOf}
+-- `execute` meets its contract: kind and A are tested as in the definition, and `add` adds one.
 use borrow.Author.Tests.{lt-ltb, le-ltb, eq-eqb, ne-eqb}
 use borrow.Author.Needs.{needs}
+use Rattle.station.proofs.TestLaws.{both-false}
+use Rattle.station.specs.Group1.{executeOf}
 use Rattle.station.proofs.group1.execute.Statement.{statement}
 use Rattle.station.proofs.group1.execute.Tie as tie
-use Rattle.station.proofs.group1.execute.Reads as reads
-use Rattle.station.proofs.group1.execute.Lts as lts
-use Rattle.station.proofs.group1.add.Reads as add-reads
 
--- src/group1.rt:165:8
 slice-read-if1 : tie.Need-slice-read-if1
 slice-read-if1 c = search needs
 
--- src/group1.rt:166:9
 returns : tie.Need-returns
 unfolding executeOf
 returns c = simp (ne-eqb _ _ (c .if1 .taken))
 
--- src/group1.rt:168:8
 slice-read-if2 : tie.Need-slice-read-if2
 slice-read-if2 c = search needs
 
--- src/group1.rt:169:9
 returns-2 : tie.Need-returns-2
 unfolding executeOf
 returns-2 c = simp (le-ltb _ _ (c .if2 .taken), both-false)
 
--- src/group1.rt:171:5
 add-requires : tie.Need-add-requires
 add-requires c κs = search needs
 
--- src/group1.rt:161:1
 same-length : tie.Need-same-length
 same-length c = search needs
 
--- src/group1.rt:161:1
 returns-3 : tie.Need-returns-3
 unfolding executeOf
-returns-3 c = simp (eq-eqb _ _ (c .before .before .before .before .before .before .if1 .left), lt-ltb _ _ (c .before .before .before .before .if2 .left), (c .before .before .add .ensures))
+returns-3 c = simp (
+  eq-eqb _ _ (c .before .before .before .before .before .before .if1 .left),
+  lt-ltb _ _ (c .before .before .before .before .if2 .left),
+  (c .before .before .add .ensures),
+)
 
 pub execute-spec : {M : Type 1} → statement M
 execute-spec =

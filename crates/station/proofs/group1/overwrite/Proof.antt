@@ -1,48 +1,39 @@
-use Rattle.station.proofs.TestLaws.{both-false}
-use Rattle.station.specs.Group1.{overwriteOf}
+-- `overwrite` meets its contract: A is tested first, then the kind, and the two tests are those of the definition.
 use mathlib.Core.Logic.{⊎-elim, inl, inr}
 use borrow.Author.Tests.{lt-ltb, le-ltb, ne-eqb}
 use borrow.Author.Needs.{needs}
+use Rattle.station.proofs.TestLaws.{both-false}
+use Rattle.station.specs.Group1.{overwriteOf}
 use Rattle.station.proofs.group1.overwrite.Statement.{statement}
 use Rattle.station.proofs.group1.overwrite.Tie as tie
-use Rattle.station.proofs.group1.overwrite.Reads as reads
-use Rattle.station.proofs.group1.overwrite.Lts as lts
 
--- src/group1.rt:100:16
 slice-read-kind : tie.Need-slice-read-kind
 slice-read-kind c = search needs
 
--- src/group1.rt:101:8
 slice-read-if1 : tie.Need-slice-read-if1
 slice-read-if1 c = search needs
 
--- src/group1.rt:102:9
 returns : tie.Need-returns
 unfolding overwriteOf
 returns c = simp (le-ltb _ _ (c .if1 .taken), both-false)
 
--- src/group1.rt:106:15
 add-b : tie.Need-add-b
 add-b c = search needs
 
--- src/group1.rt:106:13
 mul-b : tie.Need-mul-b
 mul-b c = search needs
 
--- src/group1.rt:106:13
 slice-write-b : tie.Need-slice-write-b
 slice-write-b c = search needs
 
--- src/group1.rt:96:1
 same-length : tie.Need-same-length
 same-length c = search needs
 
--- src/group1.rt:96:1
 returns-2 : tie.Need-returns-2
 unfolding overwriteOf
-returns-2 c = ⊎-elim (λ e. rw e (simp (lt-ltb _ _ (c .before .if1 .left)))) (λ e. rw e (simp (lt-ltb _ _ (c .before .if1 .left)))) (c .match .keys1)
+returns-2 c = ⊎-elim (λ e. rw e (simp (lt-ltb _ _ (c .before .if1 .left)))) (λ e. rw e (simp (lt-ltb _ _ (c .before .if1 .left))))
+    (c .match .keys1)
 
--- src/group1.rt:96:1
 returns-3 : tie.Need-returns-3
 unfolding overwriteOf
 returns-3 c = simp (ne-eqb _ _ (λ e. (c .match .rest .1) (inl e)), ne-eqb _ _ (λ e. (c .match .rest .1) (inr e)))

@@ -1,52 +1,46 @@
+-- `read` meets its contract: a buffer memory has its own rule; of a fit block any other module with a register A is of a kind that F0 reads.
+use borrow.Author.Tests.{eq-eqb, ne-eqb, lt-ltb, le-ltb}
+use borrow.Author.Needs.{needs}
 use Rattle.station.proofs.KindTable.{register-kind}
 use Rattle.station.proofs.TestLaws.{both-false}
 use Rattle.station.specs.Group1.{readOf}
-use borrow.Author.Tests.{eq-eqb, ne-eqb, lt-ltb, le-ltb}
-use borrow.Author.Needs.{needs}
 use Rattle.station.proofs.group1.read.Statement.{statement}
 use Rattle.station.proofs.group1.read.Tie as tie
-use Rattle.station.proofs.group1.read.Reads as reads
-use Rattle.station.proofs.group1.read.Lts as lts
-use Rattle.station.proofs.buffer.read.Reads as read-reads
 
--- src/group1.rt:28:8
 shared-slice-read-if1 : tie.Need-shared-slice-read-if1
 shared-slice-read-if1 c = search needs
 
--- src/group1.rt:29:9
 read-requires : tie.Need-read-requires
 read-requires c κs = search needs
 
--- src/group1.rt:29:9
 returns : tie.Need-returns
 unfolding readOf
 returns c = simp (eq-eqb _ _ (c .before .if1 .taken)) (c .read .ensures)
 
--- src/group1.rt:31:8
 shared-slice-read-if2 : tie.Need-shared-slice-read-if2
 shared-slice-read-if2 c = search needs
 
--- src/group1.rt:32:9
 returns-2 : tie.Need-returns-2
 unfolding readOf
 returns-2 c = simp (ne-eqb _ _ (c .before .before .if1 .left), le-ltb _ _ (c .if2 .taken), both-false)
 
--- src/group1.rt:37:14
 add-t8 : tie.Need-add-t8
 add-t8 c = search needs
 
--- src/group1.rt:37:12
 mul-t9 : tie.Need-mul-t9
 mul-t9 c = search needs
 
--- src/group1.rt:37:12
 shared-slice-read-t4 : tie.Need-shared-slice-read-t4
 shared-slice-read-t4 c = search needs
 
--- src/group1.rt:24:1
 returns-3 : tie.Need-returns-3
 unfolding readOf
-returns-3 c = simp (register-kind _ _ (c .before .before .before .before .before .before .pre .0) (c .before .before .before .if1 .left) (c .before .if2 .left), ne-eqb _ _ (c .before .before .before .if1 .left), lt-ltb _ _ (c .before .if2 .left))
+returns-3 c = simp (
+  register-kind _ _ (c .before .before .before .before .before .before .pre .0) (c .before .before .before .if1 .left)
+      (c .before .if2 .left),
+  ne-eqb _ _ (c .before .before .before .if1 .left),
+  lt-ltb _ _ (c .before .if2 .left),
+)
 
 pub read-spec : {M : Type 1} → statement M
 read-spec =

@@ -1,68 +1,58 @@
+-- `read_and_clear` meets its contract: a buffer memory has its own rule; of another module the register is read, then zeroed.
+use borrow.Author.Tests.{eq-eqb, ne-eqb, lt-ltb, le-ltb}
+use borrow.Author.Needs.{needs}
 use Rattle.station.proofs.KindTable.{register-kind}
 use Rattle.station.proofs.TestLaws.{both-false}
 use Rattle.station.specs.Group1.{readAndClearOf}
-use borrow.Author.Tests.{eq-eqb, ne-eqb, lt-ltb, le-ltb}
-use borrow.Author.Needs.{needs}
 use Rattle.station.proofs.group1.read_and_clear.Statement.{statement}
 use Rattle.station.proofs.group1.read_and_clear.Tie as tie
-use Rattle.station.proofs.group1.read_and_clear.Reads as reads
-use Rattle.station.proofs.group1.read_and_clear.Lts as lts
-use Rattle.station.proofs.buffer.read_and_clear.Reads as read-and-clear-reads
 
--- src/group1.rt:46:8
 slice-read-if1 : tie.Need-slice-read-if1
 slice-read-if1 c = search needs
 
--- src/group1.rt:47:9
 read-and-clear-requires : tie.Need-read-and-clear-requires
 read-and-clear-requires c κs = search needs
 
--- src/group1.rt:47:9
 same-length : tie.Need-same-length
 same-length c = search needs
 
--- src/group1.rt:47:9
 returns : tie.Need-returns
 unfolding readAndClearOf
 returns c = simp (eq-eqb _ _ (c .before .before .before .before .if1 .taken)) (c .before .before .read-and-clear .ensures)
 
--- src/group1.rt:49:8
 slice-read-if2 : tie.Need-slice-read-if2
 slice-read-if2 c = search needs
 
--- src/group1.rt:50:9
 returns-2 : tie.Need-returns-2
 unfolding readAndClearOf
 returns-2 c = simp (ne-eqb _ _ (c .before .before .if1 .left), le-ltb _ _ (c .if2 .taken), both-false)
 
--- src/group1.rt:52:13
 add-i : tie.Need-add-i
 add-i c = search needs
 
--- src/group1.rt:53:16
 mul-word : tie.Need-mul-word
 mul-word c = search needs
 
--- src/group1.rt:53:16
 slice-read-word : tie.Need-slice-read-word
 slice-read-word c = search needs
 
--- src/group1.rt:54:5
 mul-b : tie.Need-mul-b
 mul-b c = search needs
 
--- src/group1.rt:54:5
 slice-write-b : tie.Need-slice-write-b
 slice-write-b c = search needs
 
--- src/group1.rt:42:1
 same-length-2 : tie.Need-same-length-2
 same-length-2 c = search needs
 
--- src/group1.rt:42:1
 returns-3 : tie.Need-returns-3
 unfolding readAndClearOf
-returns-3 c = simp (register-kind _ _ (c .before .before .before .before .before .before .pre .0) (c .before .before .before .if1 .left) (c .before .if2 .left), ne-eqb _ _ (c .before .before .before .if1 .left), lt-ltb _ _ (c .before .if2 .left))
+returns-3 c = simp (
+  register-kind _ _ (c .before .before .before .before .before .before .pre .0) (c .before .before .before .if1 .left)
+      (c .before .if2 .left),
+  ne-eqb _ _ (c .before .before .before .if1 .left),
+  lt-ltb _ _ (c .before .if2 .left),
+)
 
 pub read-and-clear-spec : {M : Type 1} → statement M
 read-and-clear-spec =

@@ -1,61 +1,52 @@
+-- `clear` meets its contract: where there are sources, each arm of its match is a case of the definition.
+use mathlib.Core.Path.{sym, _∙_}
+use borrow.Author.Tests.{ne-eqb}
+use borrow.Author.Needs.{needs}
 use Rattle.station.proofs.TestLaws.{positive}
 use Rattle.station.specs.Group2.{group2, clearGroup2Of}
-use borrow.Author.Tests.{ne-eqb}
-use mathlib.Core.Path.{sym, _∙_}
-use borrow.Author.Needs.{needs}
 use Rattle.station.proofs.group2.clear.Statement.{statement}
 use Rattle.station.proofs.group2.clear.Tie as tie
-use Rattle.station.proofs.group2.clear.Reads as reads
-use Rattle.station.proofs.group2.clear.Lts as lts
-use Rattle.station.proofs.block.sources.Reads as sources-reads
 
--- src/group2.rt:49:8
 sources-requires : tie.Need-sources-requires
 sources-requires c κs = search needs
 
--- src/group2.rt:50:9
 same-length : tie.Need-same-length
 same-length c = search needs
 
--- src/group2.rt:50:9
 returns : tie.Need-returns
 unfolding clearGroup2Of group2
 returns c = simp (sym (c .before .sources .ensures) ∙ (c .if1 .taken))
 
--- src/group2.rt:54:13
 slice-write-b : tie.Need-slice-write-b
 slice-write-b c = search needs
 
--- src/group2.rt:58:13
 slice-write-b-2 : tie.Need-slice-write-b-2
 slice-write-b-2 c = search needs
 
--- src/group2.rt:45:1
 same-length-2 : tie.Need-same-length-2
 same-length-2 c = search needs
 
--- src/group2.rt:45:1
 returns-2 : tie.Need-returns-2
 unfolding clearGroup2Of group2
 returns-2 c = simp (positive _ _ (c .before .before .sources .ensures) (c .before .if1 .left), (c .match .keys1))
 
--- src/group2.rt:45:1
 same-length-3 : tie.Need-same-length-3
 same-length-3 c = search needs
 
--- src/group2.rt:45:1
 returns-3 : tie.Need-returns-3
 unfolding clearGroup2Of group2
 returns-3 c = simp (positive _ _ (c .before .before .sources .ensures) (c .before .if1 .left), (c .match .keys2))
 
--- src/group2.rt:45:1
 same-length-4 : tie.Need-same-length-4
 same-length-4 c = search needs
 
--- src/group2.rt:45:1
 returns-4 : tie.Need-returns-4
 unfolding clearGroup2Of group2
-returns-4 c = simp (positive _ _ (c .before .before .sources .ensures) (c .before .if1 .left), ne-eqb _ _ (c .match .rest .0 .1), ne-eqb _ _ (c .match .rest .1))
+returns-4 c = simp (
+  positive _ _ (c .before .before .sources .ensures) (c .before .if1 .left),
+  ne-eqb _ _ (c .match .rest .0 .1),
+  ne-eqb _ _ (c .match .rest .1),
+)
 
 pub clear-spec : {M : Type 1} → statement M
 clear-spec =

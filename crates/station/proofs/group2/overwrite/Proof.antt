@@ -1,53 +1,46 @@
+-- `overwrite` meets its contract: where there are sources and A is 13, the mask gets the bits of w below s.
+use mathlib.Core.Path.{sym, _∙_}
+use borrow.Author.Tests.{ne-eqb}
+use borrow.Author.Needs.{needs}
 use Rattle.station.proofs.TestLaws.{positive}
 use Rattle.station.specs.Group2.{group2, overwriteGroup2Of}
-use borrow.Author.Tests.{ne-eqb}
-use mathlib.Core.Path.{sym, _∙_}
-use borrow.Author.Needs.{needs}
 use Rattle.station.proofs.group2.overwrite.Statement.{statement}
 use Rattle.station.proofs.group2.overwrite.Tie as tie
-use Rattle.station.proofs.group2.overwrite.Reads as reads
-use Rattle.station.proofs.group2.overwrite.Lts as lts
-use Rattle.station.proofs.block.sources.Reads as sources-reads
-use Rattle.word24.proofs.word.low_bits.Reads as low-bits-reads
 
--- src/group2.rt:70:9
 sources-requires : tie.Need-sources-requires
 sources-requires c κs = search needs
 
--- src/group2.rt:72:9
 same-length : tie.Need-same-length
 same-length c = search needs
 
--- src/group2.rt:72:9
 returns : tie.Need-returns
 unfolding overwriteGroup2Of group2
 returns c = simp (sym (c .before .sources .ensures) ∙ (c .if1 .taken))
 
--- src/group2.rt:75:9
 same-length-2 : tie.Need-same-length-2
 same-length-2 c = search needs
 
--- src/group2.rt:75:9
 returns-2 : tie.Need-returns-2
 unfolding overwriteGroup2Of group2
 returns-2 c = simp (positive _ _ (c .before .before .sources .ensures) (c .before .if1 .left), ne-eqb _ _ (c .if2 .taken))
 
--- src/group2.rt:77:15
 low-bits-requires : tie.Need-low-bits-requires
 low-bits-requires c κs = search needs
 
--- src/group2.rt:77:5
 slice-write-b : tie.Need-slice-write-b
 slice-write-b c = search needs
 
--- src/group2.rt:66:1
 same-length-3 : tie.Need-same-length-3
 same-length-3 c = search needs
 
--- src/group2.rt:66:1
 returns-3 : tie.Need-returns-3
 unfolding overwriteGroup2Of group2
-returns-3 c = simp (positive _ _ (c .before .before .before .sources .ensures) (c .before .before .if1 .left), (c .before .if2 .left), (c .low-bits .ensures), (c .before .before .before .sources .ensures))
+returns-3 c = simp (
+  positive _ _ (c .before .before .before .sources .ensures) (c .before .before .if1 .left),
+  (c .before .if2 .left),
+  (c .low-bits .ensures),
+  (c .before .before .before .sources .ensures),
+)
 
 pub overwrite-spec : {M : Type 1} → statement M
 overwrite-spec =

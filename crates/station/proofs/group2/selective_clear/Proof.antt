@@ -1,83 +1,82 @@
+-- `selective_clear` meets its contract: where there are sources, each arm of its match is a case of the definition, with the bits of w below s.
+use mathlib.Core.Path.{sym, _∙_}
+use borrow.Author.Tests.{ne-eqb}
+use borrow.Author.Needs.{needs}
 use Rattle.station.proofs.TestLaws.{positive}
 use Rattle.station.specs.Group2.{group2, selectiveClearGroup2Of}
-use borrow.Author.Tests.{ne-eqb}
-use mathlib.Core.Path.{sym, _∙_}
-use borrow.Author.Needs.{needs}
 use Rattle.station.proofs.group2.selective_clear.Statement.{statement}
 use Rattle.station.proofs.group2.selective_clear.Tie as tie
-use Rattle.station.proofs.group2.selective_clear.Reads as reads
-use Rattle.station.proofs.group2.selective_clear.Lts as lts
-use Rattle.station.proofs.block.sources.Reads as sources-reads
-use Rattle.word24.proofs.word.clear_bits.Reads as clear-bits-reads
-use Rattle.word24.proofs.word.low_bits.Reads as low-bits-reads
 
--- src/group2.rt:103:9
 sources-requires : tie.Need-sources-requires
 sources-requires c κs = search needs
 
--- src/group2.rt:105:9
 same-length : tie.Need-same-length
 same-length c = search needs
 
--- src/group2.rt:105:9
 returns : tie.Need-returns
 unfolding selectiveClearGroup2Of group2
 returns c = simp (sym (c .before .sources .ensures) ∙ (c .if1 .taken))
 
--- src/group2.rt:107:9
 low-bits-requires : tie.Need-low-bits-requires
 low-bits-requires c κs = search needs
 
--- src/group2.rt:108:18
 slice-read-status : tie.Need-slice-read-status
 slice-read-status c = search needs
 
--- src/group2.rt:109:16
 slice-read-mask : tie.Need-slice-read-mask
 slice-read-mask c = search needs
 
--- src/group2.rt:112:25
 clear-bits-requires : tie.Need-clear-bits-requires
 clear-bits-requires c κs = search needs
 
--- src/group2.rt:112:13
 slice-write-b : tie.Need-slice-write-b
 slice-write-b c = search needs
 
--- src/group2.rt:116:23
 clear-bits-requires-2 : tie.Need-clear-bits-requires-2
 clear-bits-requires-2 c κs = search needs
 
--- src/group2.rt:116:13
 slice-write-b-2 : tie.Need-slice-write-b-2
 slice-write-b-2 c = search needs
 
--- src/group2.rt:99:1
 same-length-2 : tie.Need-same-length-2
 same-length-2 c = search needs
 
--- src/group2.rt:99:1
 returns-2 : tie.Need-returns-2
 unfolding selectiveClearGroup2Of group2
-returns-2 c = simp (positive _ _ (c .before .before .before .before .before .before .sources .ensures) (c .before .before .before .before .before .if1 .left), (c .before .match .keys1), (c .clear-bits .ensures), (c .before .before .before .before .low-bits .ensures), (c .before .before .before .before .before .before .sources .ensures))
+returns-2 c = simp (
+  positive _ _ (c .before .before .before .before .before .before .sources .ensures)
+      (c .before .before .before .before .before .if1 .left),
+  (c .before .match .keys1),
+  (c .clear-bits .ensures),
+  (c .before .before .before .before .low-bits .ensures),
+  (c .before .before .before .before .before .before .sources .ensures),
+)
 
--- src/group2.rt:99:1
 same-length-3 : tie.Need-same-length-3
 same-length-3 c = search needs
 
--- src/group2.rt:99:1
 returns-3 : tie.Need-returns-3
 unfolding selectiveClearGroup2Of group2
-returns-3 c = simp (positive _ _ (c .before .before .before .before .before .before .sources .ensures) (c .before .before .before .before .before .if1 .left), (c .before .match .keys2), (c .clear-bits2 .ensures), (c .before .before .before .before .low-bits .ensures), (c .before .before .before .before .before .before .sources .ensures))
+returns-3 c = simp (
+  positive _ _ (c .before .before .before .before .before .before .sources .ensures)
+      (c .before .before .before .before .before .if1 .left),
+  (c .before .match .keys2),
+  (c .clear-bits2 .ensures),
+  (c .before .before .before .before .low-bits .ensures),
+  (c .before .before .before .before .before .before .sources .ensures),
+)
 
--- src/group2.rt:99:1
 same-length-4 : tie.Need-same-length-4
 same-length-4 c = search needs
 
--- src/group2.rt:99:1
 returns-4 : tie.Need-returns-4
 unfolding selectiveClearGroup2Of group2
-returns-4 c = simp (positive _ _ (c .before .before .before .before .before .sources .ensures) (c .before .before .before .before .if1 .left), ne-eqb _ _ (c .match .rest .0 .1), ne-eqb _ _ (c .match .rest .1))
+returns-4 c = simp (
+  positive _ _ (c .before .before .before .before .before .sources .ensures)
+      (c .before .before .before .before .if1 .left),
+  ne-eqb _ _ (c .match .rest .0 .1),
+  ne-eqb _ _ (c .match .rest .1),
+)
 
 pub selective-clear-spec : {M : Type 1} → statement M
 selective-clear-spec =

@@ -1,43 +1,32 @@
-use Rattle.station.specs.Lam.{disableOf}
+-- `disable` meets its contract: A is compared with the sources, and the mask gets what `without_bit` gives.
 use borrow.Author.Tests.{lt-ltb, le-ltb}
 use borrow.Author.Needs.{needs}
+use Rattle.station.specs.Lam.{disableOf}
 use Rattle.station.proofs.lam.disable.Statement.{statement}
 use Rattle.station.proofs.lam.disable.Tie as tie
-use Rattle.station.proofs.lam.disable.Reads as reads
-use Rattle.station.proofs.lam.disable.Lts as lts
-use Rattle.station.proofs.block.sources.Reads as sources-reads
-use Rattle.word24.proofs.word.without_bit.Reads as without-bit-reads
 
--- src/lam.rt:67:8
 sources-requires : tie.Need-sources-requires
 sources-requires c κs = search needs
 
--- src/lam.rt:68:9
 same-length : tie.Need-same-length
 same-length c = search needs
 
--- src/lam.rt:68:9
 returns : tie.Need-returns
 unfolding disableOf
 returns c = simp (← (c .before .sources .ensures), le-ltb _ _ (c .if1 .taken))
 
--- src/lam.rt:70:16
 slice-read-mask : tie.Need-slice-read-mask
 slice-read-mask c = search needs
 
--- src/lam.rt:71:15
 without-bit-requires : tie.Need-without-bit-requires
 without-bit-requires c κs = search needs
 
--- src/lam.rt:71:5
 slice-write-b : tie.Need-slice-write-b
 slice-write-b c = search needs
 
--- src/lam.rt:63:1
 same-length-2 : tie.Need-same-length-2
 same-length-2 c = search needs
 
--- src/lam.rt:63:1
 returns-2 : tie.Need-returns-2
 unfolding disableOf
 returns-2 c = simp (← (c .before .before .before .sources .ensures), lt-ltb _ _ (c .before .before .if1 .left), (c .without-bit .ensures))

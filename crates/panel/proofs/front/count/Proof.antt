@@ -1,0 +1,62 @@
+-- `count` meets its contract: `count24` gives the register's new word and whether the status bit is set, both of the exact sum.
+use mathlib.Core.Path.{sym, ap, _∙_}
+use borrow.Author.Needs.{needs}
+use lib.ListN.{length, length-set}
+use Rattle.station.specs.Front.{countedOf}
+use Rattle.panel.proofs.front.count.Statement.{statement}
+use Rattle.panel.proofs.front.count.Tie as tie
+
+add-i : tie.Need-add-i
+add-i c = search needs
+
+mul-count24 : tie.Need-mul-count24
+mul-count24 c = search needs
+
+slice-read-count24 : tie.Need-slice-read-count24
+slice-read-count24 c = search needs
+
+count24-requires : tie.Need-count24-requires
+count24-requires c κs = ((c .before .before .pre .0 .register) _ (c .before .before .pre .1 .0), (c .before .before .pre .1 .1))
+
+mul-b : tie.Need-mul-b
+mul-b c = search needs
+
+slice-write-b : tie.Need-slice-write-b
+slice-write-b c = search needs
+
+set-status-bit-requires : tie.Need-set-status-bit-requires
+set-status-bit-requires c κs = search needs
+
+same-length : tie.Need-same-length
+same-length c = ap length (c .before .before .set-status-bit .ensures) ∙ simp length-set
+
+returns : tie.Need-returns
+unfolding countedOf
+returns c = simp (
+  sym (c .before .before .before .before .before .count24 .ensures .1) ∙ (c .before .before .before .before .if1 .taken),
+  (c .before .before .set-status-bit .ensures),
+  (c .before .before .before .before .before .count24 .ensures .0),
+)
+
+same-length-2 : tie.Need-same-length-2
+same-length-2 c = search needs
+
+returns-2 : tie.Need-returns-2
+unfolding countedOf
+returns-2 c = simp (sym (c .before .count24 .ensures .1) ∙ (c .if1 .left), (c .before .count24 .ensures .0))
+
+pub count-spec : {M : Type 1} → statement M
+count-spec =
+    tie.close
+    (tie.spec
+    add-i
+    mul-count24
+    slice-read-count24
+    count24-requires
+    mul-b
+    slice-write-b
+    set-status-bit-requires
+    same-length
+    returns
+    same-length-2
+    returns-2)

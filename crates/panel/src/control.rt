@@ -1,0 +1,27 @@
+// The common controls at a station: Initialize Z and Clear C.
+ghost use mathlib.Core.Path.{_≡_};
+ghost use Rattle.station.specs.Block.{FitBlock};
+ghost use Rattle.station.specs.Control.{initializedOf, clearedOf};
+use station::block::COUNT;
+use station::block::zero_module;
+
+// Z: every register, status, mask, head and fill becomes 0.
+pub fn initialize(b: &mut [u32])
+    requires { ⌜ FitBlock (now b) ⌝ }
+    ensures { λ _. ⌜ now (b .exit) ≡ initializedOf (now (b .entry)) ⌝ }
+{
+    zero_module(b, 0, 0);
+}
+
+// C: F9 at each subaddress below r.
+pub fn clear(b: &mut [u32])
+    requires { ⌜ FitBlock (now b) ⌝ }
+    ensures { λ _. ⌜ now (b .exit) ≡ clearedOf (now (b .entry)) ⌝ }
+{
+    let r = b[COUNT];
+    let mut a: u32 = 0;
+    while a < r {
+        station::command(b, a, 9, 0);
+        a += 1;
+    }
+}
