@@ -1,8 +1,11 @@
-// The common controls at a station: Initialize Z and Clear C.
+// The common controls at a station, Initialize Z and Clear C; and a module put in.
 ghost use mathlib.Core.Path.{_≡_};
+ghost use lib.ListN.{length};
 ghost use Rattle.station.specs.Block.{FitBlock};
-ghost use Rattle.station.specs.Control.{initializedOf, clearedOf};
+ghost use Rattle.station.specs.Control.{initializedOf, clearedOf, moduleOf};
 use station::block::COUNT;
+use station::block::KIND;
+use station::block::zero;
 use station::block::zero_module;
 
 // Z: every register, status, mask, head and fill becomes 0.
@@ -24,4 +27,14 @@ pub fn clear(b: &mut [u32])
         station::command(b, a, 9, 0);
         a += 1;
     }
+}
+
+// Puts a module in: its kind and its register count, all else 0.
+pub fn put_module(b: &mut [u32], kind: u32, r: u32)
+    requires { ⌜ length (now b) ≡ 32 ⌝ }
+    ensures { λ _. ⌜ now (b .exit) ≡ moduleOf kind r ⌝ }
+{
+    zero(b);
+    b[KIND] = kind;
+    b[COUNT] = r;
 }

@@ -1,5 +1,4 @@
 -- The block of one station (01, 'Crate memory'): its 32 words, the table of kinds, and when a block is fit.
--- Assumes nothing.
 use Prim.Native.Nat.{ℕ, _+_, _-_, _<_, _≤_, _^_, _%_}
 use mathlib.Core.Path.{_≡_}
 use mathlib.Core.List.{List, [], _∷_, _++_}

@@ -1,5 +1,4 @@
 -- Tests and cases as lists, so that a row of a table in the paper is an item of a list here.
--- Assumes nothing.
 use Prim.Native.Nat.{ℕ, zero, suc}
 use mathlib.Core.List.{List, [], _∷_}
 use mathlib.Core.Bool.{Bool, true, false, cond, _&&_, _||_}

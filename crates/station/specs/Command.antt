@@ -1,5 +1,4 @@
 -- The 32 functions: what a command with subaddress A, function F and write word W does at a station.
--- Assumes nothing.
 use Prim.Native.Nat.{ℕ}
 use mathlib.Core.List.{List, [], _∷_}
 use Rattle.station.specs.Cases.{Case, _does_, caseOf}

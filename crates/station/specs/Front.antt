@@ -1,5 +1,4 @@
 -- A front event at a station, given Inhibit I (01, 'Front panel and common controls').
--- Assumes nothing.
 use Prim.Native.Nat.{ℕ, _+_, _%_}
 use mathlib.Core.List.{List, [], _∷_}
 use mathlib.Core.Bool.{Bool, cond}

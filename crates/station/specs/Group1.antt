@@ -1,5 +1,4 @@
 -- Group 1: the registers (01, 'The 32 functions'). Accepted at A below r.
--- Assumes nothing.
 use Prim.Native.Nat.{ℕ}
 use mathlib.Core.List.{List, [], _∷_}
 use mathlib.Core.Bool.{Bool, cond, _&&_}

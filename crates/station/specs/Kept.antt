@@ -1,5 +1,4 @@
 -- What every step keeps of a station's block: it stays fit, and so do its kind, its register count and words 6 to 15.
--- Assumes nothing.
 use Prim.Native.Nat.{ℕ, _<_}
 use mathlib.Core.Path.{_≡_}
 use mathlib.Core.List.{List}

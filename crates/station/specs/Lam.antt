@@ -1,5 +1,4 @@
 -- LAM commands (01, 'The 32 functions'): one source each, accepted at A below s.
--- Assumes nothing.
 use Prim.Native.Nat.{ℕ}
 use mathlib.Core.List.{List}
 use lib.Dec.{ltb}

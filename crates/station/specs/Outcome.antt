@@ -1,5 +1,4 @@
 -- What a command comes to: the block that it leaves, and its answer X, Q and R.
--- Assumes nothing.
 use Prim.Native.Nat.{ℕ}
 use mathlib.Core.List.{List}
 use mathlib.Core.Bool.{Bool, cond}

@@ -56,7 +56,7 @@ pub fn set_status_bit(b: &mut [u32], a: u32)
 }
 
 // Zeroes every word of a slice.
-fn zero(s: &mut [u32])
+pub fn zero(s: &mut [u32])
     ensures { λ _. ⌜ now (s .exit) ≡ replicate (length (now (s .entry))) 0 ⌝ }
 {
     let mut i = 0;

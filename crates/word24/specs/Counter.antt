@@ -2,7 +2,6 @@
 -- An event v takes a register from old to `mod24 (exactSum old v)`, and sets the status bit where `raisesAt old (exactSum old v)`.
 -- proofs/CounterLaws.antt shows that `signedOf` stays in the span and loses nothing (signed-span, signed-back), and that `mod24` is the
 -- remainder by 2^24 (mod24-lt, mod24-congruent).
--- Assumes nothing.
 use mathlib.Core.Bool.{Bool, true, false, not, cond, _&&_, _||_}
 use Prim.Native.Nat.{ℕ, zero, suc, _-_, _%_, _^_}
 use lib.IntN.{ℤ, pos, negsuc, negℤ, _+ℤ_, _-ℤ_}

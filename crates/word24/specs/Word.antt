@@ -1,5 +1,4 @@
 -- The arithmetic of 24-bit words, and words by their bits, bit 0 the lowest. The laws bit by bit are in proofs/BitLaws.antt.
--- Assumes nothing.
 use mathlib.Core.Bool.{Bool}
 use Prim.Native.Nat.{ℕ, _+_, _-_, _/_, _%_, _^_}
 use lib.Bits.{bitAnd, bitOr}

@@ -1,0 +1,98 @@
+-- Laws of a fit crate memory: the test and the facts say the same, a station's block may be replaced by a fit one, Inhibit by 0 or 1, and the
+-- empty crate is fit.
+-- Assumes nothing.
+use Prim.Native.Nat.{ℕ, _+_, _-_, _*_, _≤_, _<_}
+use mathlib.Core.Path.{_≡_, refl, sym, subst, _∙_}
+use mathlib.Core.List.{List}
+use mathlib.Core.Bool.{Bool, true}
+use mathlib.Core.Logic.{⊎-elim}
+use native.Mathlib.Omega.{arith}
+use borrow.Author.Tests.{ltb-true, eqb-true, lt-ltb, eq-eqb}
+use lib.ListN.{length, getD, set, replicate, length-set}
+use lib.Seq.{getD-set-same, getD-set-other}
+use Rattle.blocks.specs.Blocks.{blockOf, withBlock, inhibitOf}
+use Rattle.blocks.proofs.Blocks.{length-with, put-other, block-same, block-other, block-of-agree}
+use Rattle.station.specs.Cases.{every}
+use Rattle.station.specs.Block.{FitBlock, isFitBlock, isFitHeader, headerTests, isFitSpare, isFitRegister, fitTests, isUsed, sourcesOf}
+use Rattle.station.proofs.TestLaws.{alike, every-at, every-intro, all-true, all-intro}
+use Rattle.station.proofs.Fitness.{fit-facts, facts-fit}
+use Rattle.dataway.specs.Crate.{isFitRest, isFitStation, crateTests, isFitCrate, FitCrate, emptyCrate}
+
+-- ---- the test and the facts
+rest-zero : (m : List ℕ) (i : ℕ) → isFitRest m i ≡ true → getD m (1 + i) 0 ≡ 0
+unfolding isFitRest
+rest-zero m i h = eqb-true _ _ h
+
+rest-fits : (m : List ℕ) (i : ℕ) → getD m (1 + i) 0 ≡ 0 → isFitRest m i ≡ true
+unfolding isFitRest
+rest-fits m i h = eq-eqb _ _ h
+
+station-facts : (m : List ℕ) (i : ℕ) → isFitStation m i ≡ true → FitBlock (blockOf m (1 + i))
+unfolding isFitStation
+station-facts m i h = fit-facts (blockOf m (1 + i)) h
+
+station-fits : (m : List ℕ) (i : ℕ) → FitBlock (blockOf m (1 + i)) → isFitStation m i ≡ true
+unfolding isFitStation
+station-fits m i h = facts-fit (blockOf m (1 + i)) h
+
+-- a memory that passes the test is as the facts say
+pub crate-facts : (m : List ℕ) → isFitCrate m ≡ true → FitCrate m
+unfolding isFitCrate crateTests
+crate-facts m h =
+    let p = all-true (crateTests m) h in
+    record {
+      size = eqb-true _ _ (p .0);
+      inhibit = ltb-true _ _ (p .1 .0);
+      rest = λ i l. rest-zero m i (every-at 31 (isFitRest m) i (p .1 .1 .0) l);
+      station = λ n lo hi.
+          let e : 1 + (n - 1) ≡ n = omega arith in
+          subst (λ (k : ℕ). FitBlock (blockOf m k)) e (station-facts m (n - 1) (every-at 23 (isFitStation m) (n - 1) (p .1 .1 .1 .0) (omega arith)));
+    }
+
+-- and a memory that is so passes it
+pub facts-crate : (m : List ℕ) → FitCrate m → isFitCrate m ≡ true
+unfolding isFitCrate crateTests
+facts-crate m h =
+    all-intro (crateTests m) (
+      eq-eqb _ _ (h .size),
+      (
+        lt-ltb _ _ (h .inhibit),
+        (
+          every-intro 31 (isFitRest m) (λ i l. rest-fits m i (h .rest i l)),
+          (every-intro 23 (isFitStation m) (λ i l. station-fits m i (h .station (1 + i) (omega arith) (omega arith))), tt),
+        ),
+      ),
+    )
+
+-- the empty crate is fit
+pub empty-fit : FitCrate emptyCrate
+unfolding isFitCrate crateTests isFitRest isFitStation isFitBlock fitTests isFitHeader headerTests isFitSpare isFitRegister isUsed sourcesOf blockOf
+empty-fit = crate-facts emptyCrate refl
+
+-- ---- one block replaced
+pub fit-with : (m : List ℕ) (n : ℕ) (b : List ℕ) → FitCrate m → 1 ≤ n → n ≤ 23 → FitBlock b → FitCrate (withBlock m n b)
+fit-with m n b f lo hi g =
+    let o : (w : ℕ) → w < 32 → getD (withBlock m n b) (32 * 0 + w) 0 ≡ getD m (32 * 0 + w) 0 =
+    λ w h. put-other m n b (f .size) (omega arith) (g .long) 0 w h (λ e. omega arith) in
+    record {
+      size = length-with m n b (f .size) (omega arith) (g .long);
+      inhibit = rw (o 0 (omega arith)) (f .inhibit);
+      rest = λ i h. let e : 32 * 0 + (1 + i) ≡ 1 + i = omega arith in (rw e at (o (1 + i) (omega arith))) ∙ f .rest i h;
+      station = λ k p q.
+          ⊎-elim
+          (λ (e : k ≡ n). rw (e, block-same m n b (f .size) (omega arith) (g .long)) g)
+          (λ (d : k ≡ n → ⊥). rw (block-other m n b (f .size) (omega arith) (g .long) k d) (f .station k p q))
+          (alike k n);
+    }
+
+-- ---- Inhibit replaced
+pub fit-inhibit : (m : List ℕ) (v : ℕ) → FitCrate m → v ≤ 1 → FitCrate (set m 0 v)
+fit-inhibit m v h l =
+    record {
+      size = length-set m 0 v ∙ h .size;
+      inhibit = rw (getD-set-same m 0 v 0 (omega (arith, h .size))) (omega arith);
+      rest = λ i p. getD-set-other m 0 (1 + i) v 0 (λ e. omega arith) ∙ h .rest i p;
+      station = λ n p q.
+          rw (block-of-agree (set m 0 v) m n (length-set m 0 v) (λ w d. getD-set-other m 0 (32 * n + w) v 0 (λ e. omega arith)))
+          (h .station n p q);
+    }

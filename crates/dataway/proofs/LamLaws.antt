@@ -1,0 +1,186 @@
+-- The L pattern: its bits are the stations' requests, its count of ones is how many request, and its trailing zeros lead to the lowest.
+-- Assumes nothing.
+use Prim.Native.Nat.{ℕ, zero, suc, _+_, _*_, _/_, _%_, _^_, _≤_, _<_}
+use mathlib.Core.Path.{_≡_, refl, sym, ap, ap₂, _∙_}
+use mathlib.Core.List.{List}
+use mathlib.Core.Bool.{Bool, true, false, cond}
+use mathlib.Core.Logic.{_⊎_, inl, inr, ⊎-elim}
+use native.Mathlib.Nat.{pow-suc, le-of-suc-le-suc, not-suc-le-zero, zero-mul, zero-div, one-mul}
+use native.Mathlib.Numerals.{add-one}
+use native.Mathlib.Omega.{arith}
+use borrow.Author.Tests.{eq-eqb, ne-eqb}
+use lib.Dec.{eqb}
+use lib.Arith.{lt-one}
+use lib.Bits.{bitAnd, bitOr, or-shifted-r, block-half, block-odd}
+use lib.Pow.{pow-pos, shl-exact}
+use lib.Count.{ones, ones-cat, trailingZeros, under}
+use Rattle.blocks.specs.Blocks.{word, blockOf}
+use Rattle.blocks.proofs.Blocks.{word-block}
+use Rattle.word24.specs.Word.{bitOf}
+use Rattle.word24.proofs.BitLaws.{bit-or, bit-pow-same, bit-pow-other, bit-ext, high-bit}
+use Rattle.station.specs.Block.{statusOf, maskOf, requestOf}
+use Rattle.station.proofs.TestLaws.{alike}
+use Rattle.dataway.specs.Lam.{requests, patternTo, countTo, firstTo, lamOf}
+use Rattle.dataway.specs.declared.lam.LamReading.{LamReading}
+
+-- ---- a station's request
+pub request-bit : (m : List ℕ) (n : ℕ) → (requests m n ≡ 0) ⊎ (requests m n ≡ 1)
+unfolding requests
+request-bit m n = go (eqb (requestOf (blockOf m n)) 0)
+  where
+    go : (t : Bool) → (_≡_ {A = ℕ} (cond t 0 1) 0) ⊎ (_≡_ {A = ℕ} (cond t 0 1) 1)
+    go true = inl refl
+    go false = inr refl
+
+pub request-lt : (m : List ℕ) (n : ℕ) → requests m n < 2
+request-lt m n = ⊎-elim (λ (e : requests m n ≡ 0). omega arith) (λ (e : requests m n ≡ 1). omega arith) (request-bit m n)
+
+-- the words of the memory that the code reads are those of the block
+read : (m : List ℕ) (n : ℕ) → requestOf (blockOf m n) ≡ bitAnd (word m n 2) (word m n 3)
+read m n = ap₂ bitAnd (word-block m n 2 (omega arith)) (word-block m n 3 (omega arith))
+
+pub request-none : (m : List ℕ) (n : ℕ) → bitAnd (word m n 2) (word m n 3) ≡ 0 → 0 ≡ requests m n
+unfolding requests
+request-none m n e = simp (read m n, e)
+
+pub request-some : (m : List ℕ) (n : ℕ) → (bitAnd (word m n 2) (word m n 3) ≡ 0 → ⊥) → 1 ≡ requests m n
+unfolding requests
+request-some m n f = simp (read m n, ne-eqb _ _ f)
+
+-- ---- one bit, at its place
+shifted-same : (k r : ℕ) → (r ≡ 0) ⊎ (r ≡ 1) → bitOf k (r * 2 ^ k) ≡ r
+shifted-same k r (inl e) = rw e (simp (zero-mul, zero-div))
+shifted-same k r (inr e) = rw (e, one-mul) (bit-pow-same k)
+
+shifted-other : (k i r : ℕ) → (i ≡ k → ⊥) → (r ≡ 0) ⊎ (r ≡ 1) → bitOf i (r * 2 ^ k) ≡ 0
+shifted-other k i r n (inl e) = rw e (simp (zero-mul, zero-div))
+shifted-other k i r n (inr e) = rw (e, one-mul) (bit-pow-other i k n)
+
+-- ---- the trailing zeros of a number
+-- more digits above a number that is not 0 change nothing
+trailing-below : (d k a p : ℕ) → p < 2 ^ k → (p ≡ 0 → ⊥) → trailingZeros d (a * 2 ^ k + p) ≡ trailingZeros d p
+unfolding trailingZeros
+trailing-below zero k a p h n = refl
+trailing-below (suc d) zero a p h n = absurd (n (lt-one h))
+trailing-below (suc d) (suc k) a p h n =
+    ap₂ (λ (x y : ℕ). under x (trailingZeros d y)) (block-odd a k p) (block-half a k p)
+    ∙ go (p % 2) (λ e. trailing-below d k a (p / 2) (omega (arith, pow-suc 2 k)) (λ q. n (omega arith))) refl
+  where
+    go : (r : ℕ) → (p % 2 ≡ 0 → trailingZeros d (a * 2 ^ k + p / 2) ≡ trailingZeros d (p / 2)) → p % 2 ≡ r
+        → under r (trailingZeros d (a * 2 ^ k + p / 2)) ≡ under r (trailingZeros d (p / 2))
+    go zero ih e = ap suc (ih e)
+    go (suc r) ih e = refl
+
+-- a single 1
+trailing-one : (d k : ℕ) → k < d → trailingZeros d (2 ^ k) ≡ k
+unfolding trailingZeros
+trailing-one zero k h = absurd (omega arith)
+trailing-one (suc d) zero h = refl
+trailing-one (suc d) (suc k) h =
+    let odd : 2 ^ suc k % 2 ≡ 0 = omega (arith, pow-suc 2 k) in
+    let half : 2 ^ suc k / 2 ≡ 2 ^ k = omega (arith, pow-suc 2 k) in
+    ap₂ (λ (x y : ℕ). under x (trailingZeros d y)) odd half ∙ ap suc (trailing-one d k (le-of-suc-le-suc h))
+
+module _ (m : List ℕ) where
+  -- ---- the pattern
+  -- one station more
+  pattern-suc : (k : ℕ) → patternTo (suc k) m ≡ requests m (suc k) * 2 ^ k + patternTo k m
+  unfolding patternTo
+  pattern-suc k = refl
+
+  pub pattern-lt : (k : ℕ) → patternTo k m < 2 ^ k
+  unfolding patternTo
+  pattern-lt zero = omega arith
+  pattern-lt (suc k) =
+      let p = pow-suc 2 k in
+      let ih = pattern-lt k in
+      ⊎-elim
+      (λ (e : requests m (suc k) ≡ 0). rw e (omega arith))
+      (λ (e : requests m (suc k) ≡ 1). rw e (omega arith))
+      (request-bit m (suc k))
+
+  -- the bit of station k + 1 put in its place, as `request << k` and `|` do
+  pub pattern-or : (k : ℕ) → k < 23 → bitOr (patternTo k m) ((requests m (k + 1) * 2 ^ k) % 2 ^ 32) ≡ patternTo (k + 1) m
+  pattern-or k h =
+      ap (bitOr (patternTo k m)) (shl-exact 1 k 32 (request-lt m (k + 1)) (omega arith))
+      ∙ or-shifted-r (requests m (k + 1)) k (patternTo k m) (pattern-lt k)
+      ∙ rw (add-one k) (sym (pattern-suc k))
+
+  -- bit i is the request of station i + 1
+  pub pattern-bit : (k i : ℕ) → i < k → bitOf i (patternTo k m) ≡ requests m (suc i)
+  pattern-bit zero i h = absurd (not-suc-le-zero h)
+  pattern-bit (suc k) i h =
+      let p : ℕ = patternTo k m in
+      let joined : patternTo (suc k) m ≡ bitOr p (requests m (suc k) * 2 ^ k) =
+      pattern-suc k ∙ sym (or-shifted-r (requests m (suc k)) k p (pattern-lt k)) in
+      ap (bitOf i) joined ∙ bit-or i p (requests m (suc k) * 2 ^ k)
+      ∙ ⊎-elim
+      (λ (e : i ≡ k). rw e (omega (arith, high-bit k k p (pattern-lt k) (omega arith), shifted-same k (requests m (suc k)) (request-bit m (suc k)))))
+      (λ (n : i ≡ k → ⊥). omega (arith, pattern-bit k i (omega arith), shifted-other k i (requests m (suc k)) n (request-bit m (suc k))))
+      (alike i k)
+
+  -- L is the one 23-bit word whose bit N-1 says whether station N requests
+  pub pattern-unique : (l : ℕ) → l < 2 ^ 23 → ((i : ℕ) → i < 23 → bitOf i l ≡ requests m (suc i)) → l ≡ patternTo 23 m
+  pattern-unique l h b = bit-ext 23 l (patternTo 23 m) h (pattern-lt 23) (λ i p. b i p ∙ sym (pattern-bit 23 i p))
+
+  -- ---- its count of ones
+  ones-of-request : (n : ℕ) → ones (requests m n) ≡ requests m n
+  unfolding ones
+  ones-of-request n = ⊎-elim (λ (e : requests m n ≡ 0). rw e) (λ (e : requests m n ≡ 1). rw e) (request-bit m n)
+
+  pub pattern-ones : (k : ℕ) → ones (patternTo k m) ≡ countTo k m
+  unfolding patternTo countTo ones
+  pattern-ones zero = refl
+  pattern-ones (suc k) = ones-cat k (requests m (suc k)) (patternTo k m) (pattern-lt k) ∙ ap₂ (λ (x y : ℕ). x + y) (ones-of-request (suc k)) (pattern-ones k)
+
+  -- ---- its lowest 1
+  pub first-none : (k : ℕ) → patternTo k m ≡ 0 → firstTo k m ≡ 0
+  unfolding patternTo firstTo
+  first-none zero e = refl
+  first-none (suc k) e =
+      let p : patternTo k m ≡ 0 = omega arith in
+      ⊎-elim
+      (λ (r : requests m (suc k) ≡ 0). rw (first-none k p, r) (omega arith))
+      (λ (r : requests m (suc k) ≡ 1). absurd (let q : 1 * 2 ^ k + patternTo k m ≡ 0 = rw r at e in omega (arith, pow-pos k)))
+      (request-bit m (suc k))
+
+  pub first-some : (k : ℕ) → k ≤ 23 → (patternTo k m ≡ 0 → ⊥) → trailingZeros 32 (patternTo k m) + 1 ≡ firstTo k m
+  unfolding patternTo firstTo
+  first-some zero l n = absurd (n refl)
+  first-some (suc k) l n = ⊎-elim none (some (first-some k (omega arith))) (alike (patternTo k m) 0)
+    where
+      -- station k + 1 is the lowest
+      one : trailingZeros 32 (1 * 2 ^ k + 0) ≡ k
+      one = ap (trailingZeros 32) (omega arith) ∙ trailing-one 32 k (omega arith)
+
+      none : patternTo k m ≡ 0
+          → trailingZeros 32 (requests m (suc k) * 2 ^ k + patternTo k m) + 1 ≡ cond (eqb (firstTo k m) 0) (requests m (suc k) * suc k) (firstTo k m)
+      none p =
+          ⊎-elim
+          (λ (r : requests m (suc k) ≡ 0). absurd (n (rw (r, p) (omega arith))))
+          (λ (r : requests m (suc k) ≡ 1). rw (r, p, first-none k p) (omega (arith, one)))
+          (request-bit m (suc k))
+
+      -- a lower one is
+      some : ((patternTo k m ≡ 0 → ⊥) → trailingZeros 32 (patternTo k m) + 1 ≡ firstTo k m) → (patternTo k m ≡ 0 → ⊥)
+          → trailingZeros 32 (requests m (suc k) * 2 ^ k + patternTo k m) + 1 ≡ cond (eqb (firstTo k m) 0) (requests m (suc k) * suc k) (firstTo k m)
+      some lower p =
+          let ih = lower p in
+          rw (trailing-below 32 k (requests m (suc k)) (patternTo k m) (pattern-lt k) p, ne-eqb (firstTo k m) 0 (λ e. omega arith)) ih
+
+  -- ---- the whole reading, from the pattern l
+  module _ (l : ℕ) (e : l ≡ patternTo 23 m) where
+    count-is : ones l ≡ countTo 23 m
+    count-is = ap ones e ∙ pattern-ones 23
+
+    pub reading-none : l ≡ 0 → _≡_ {A = LamReading} (record { l = l; count = ones l; first = 0 }) (lamOf m)
+    unfolding lamOf
+    reading-none z =
+        let f : 0 ≡ firstTo 23 m = sym (first-none 23 (sym e ∙ z)) in
+        λ i. record { l = e i; count = count-is i; first = f i }
+
+    pub reading-some : (l ≡ 0 → ⊥) → _≡_ {A = LamReading} (record { l = l; count = ones l; first = trailingZeros 32 l + 1 }) (lamOf m)
+    unfolding lamOf
+    reading-some n =
+        let f : trailingZeros 32 l + 1 ≡ firstTo 23 m = ap (λ (x : ℕ). trailingZeros 32 x + 1) e ∙ first-some 23 (omega arith) (λ z. n (e ∙ z)) in
+        λ i. record { l = e i; count = count-is i; first = f i }

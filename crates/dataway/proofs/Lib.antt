@@ -1,0 +1,5 @@
+pub mod CrateLaws
+pub mod StationLaws
+pub mod ControlLaws
+pub mod LamLaws
+pub mod Locality

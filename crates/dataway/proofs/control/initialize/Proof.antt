@@ -1,0 +1,79 @@
+-- `initialize` meets its contract. The loop's invariant: stations 1 to k are initialized. The memory stays fit (`each-fit`), so that the next station's
+-- block is; and then Inhibit is set.
+use Prim.Native.Nat.{ℕ, _+_, _-_, _≤_}
+use mathlib.Core.List.{List}
+use mathlib.Core.Path.{_≡_, sym, ap, _∙_}
+use native.Mathlib.Omega.{arith}
+use lib.ListN.{length, set, length-set}
+use Rattle.dataway.proofs.ControlLaws.{initialized-fit, each-fit, each-more, each-none}
+use Rattle.dataway.specs.Controls.{eachStation, afterZ}
+use Rattle.dataway.specs.Crate.{FitCrate}
+use Rattle.station.specs.Control.{initializedOf}
+use Rattle.dataway.proofs.control.initialize.Statement.{statement}
+use Rattle.dataway.proofs.control.initialize.Tie as tie
+
+abbrev Inv-loop : tie.InvT-loop
+Inv-loop memory₀ k₀ memory k = (k ≤ 23) × (memory ≡ eachStation initializedOf k memory₀)
+
+abbrev μ-loop : tie.MeasureT-loop
+μ-loop memory₀ k₀ memory k = 23 - k
+
+loop-holds : tie.Need-loop-holds Inv-loop μ-loop
+loop-holds c = (omega arith, each-none initializedOf _)
+
+add-initialize-station : tie.Need-add-initialize-station Inv-loop μ-loop
+add-initialize-station c = omega arith
+
+initialize-station-requires : tie.Need-initialize-station-requires Inv-loop μ-loop
+initialize-station-requires c κs = let f : FitCrate (c .before .before .loop .memory) = rw (c .before .before .loop .inv .1)
+    (each-fit initializedOf initialized-fit (c .before .before .before .before .args .memory .now) (c .before .before .before .before .pre)
+    (c .before .before .loop .k) (c .before .before .loop .inv .0)) in
+    (f .size, (omega arith, f .station ((c .before .before .loop .k) + 1) (omega arith) (omega arith)))
+
+add-k : tie.Need-add-k Inv-loop μ-loop
+add-k c = omega arith
+
+loop-less : tie.Need-loop-less Inv-loop μ-loop
+loop-less c = omega arith
+
+loop-again : tie.Need-loop-again Inv-loop μ-loop
+loop-again c = (
+  omega arith,
+  each-more initializedOf initialized-fit (c .before .before .before .before .before .before .before .args .memory .now)
+      (c .before .before .before .before .before .before .before .pre) (c .before .before .before .before .before .loop .k)
+      (c .before .before .before .before .before .loop .memory) (c .before .before .initialize-station .last .0) (omega arith)
+      (c .before .before .before .before .before .loop .inv .1) (c .before .before .initialize-station .ensures),
+)
+
+slice-write-memory : tie.Need-slice-write-memory Inv-loop μ-loop
+slice-write-memory c = omega (
+  arith,
+  ap length (c .before .loop .inv .1)
+      ∙ each-fit initializedOf initialized-fit (c .before .before .before .args .memory .now) (c .before .before .before .pre)
+      (c .before .loop .k) (c .before .loop .inv .0) .size,
+)
+
+same-length : tie.Need-same-length Inv-loop μ-loop
+same-length c = length-set (c .before .loop .memory) 0 1 ∙ ap length (c .before .loop .inv .1)
+    ∙ each-fit initializedOf initialized-fit (c .before .before .before .args .memory .now) (c .before .before .before .pre)
+    (c .before .loop .k) (c .before .loop .inv .0) .size ∙ sym (c .before .before .before .pre .size)
+
+returns : tie.Need-returns Inv-loop μ-loop
+unfolding afterZ
+returns c = let e : (c .before .loop .k) ≡ 23 = omega arith in ap (λ (l : List ℕ). set l 0 1) (rw e at (c .before .loop .inv .1))
+
+pub initialize-spec : {M : Type 1} → statement M
+initialize-spec =
+    tie.close
+    (tie.spec
+    Inv-loop
+    μ-loop
+    loop-holds
+    add-initialize-station
+    initialize-station-requires
+    add-k
+    loop-less
+    loop-again
+    slice-write-memory
+    same-length
+    returns)

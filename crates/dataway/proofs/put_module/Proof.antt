@@ -1,0 +1,51 @@
+-- `put_module` meets its contract: the lent block becomes the module's, whatever it was.
+use borrow.Author.Needs.{needs}
+use Rattle.dataway.proofs.StationLaws.{block-lent}
+use Rattle.dataway.specs.Stations.{withModule}
+use Rattle.station.specs.Control.{moduleOf}
+use Rattle.dataway.proofs.put_module.Statement.{statement}
+use Rattle.dataway.proofs.put_module.Tie as tie
+
+mul-from : tie.Need-mul-from
+mul-from c = search needs
+
+add-to : tie.Need-add-to
+add-to c = search needs
+
+mul-put-module : tie.Need-mul-put-module
+mul-put-module c = search needs
+
+sub-put-module : tie.Need-sub-put-module
+sub-put-module c = search needs
+
+part-put-module-start : tie.Need-part-put-module-start
+part-put-module-start c = search needs
+
+part-put-module-end : tie.Need-part-put-module-end
+part-put-module-end c = search needs
+
+put-module-requires : tie.Need-put-module-requires
+put-module-requires c κs = search needs
+
+same-length : tie.Need-same-length
+same-length c = search needs
+
+returns : tie.Need-returns
+unfolding withModule
+returns c = block-lent (c .before .before .before .before .before .args .memory .now) (c .before .before .before .before .before .args .n)
+    (λ b. moduleOf (c .before .before .before .before .before .args .kind) (c .before .before .before .before .before .args .r))
+    (c .before .before .put-module .last .0) (c .before .before .put-module .ensures)
+
+pub put-module-spec : {M : Type 1} → statement M
+put-module-spec =
+    tie.close
+    (tie.spec
+    mul-from
+    add-to
+    mul-put-module
+    sub-put-module
+    part-put-module-start
+    part-put-module-end
+    put-module-requires
+    same-length
+    returns)

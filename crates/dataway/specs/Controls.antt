@@ -1,0 +1,23 @@
+-- The common controls of the crate (01, 'Front panel and common controls'): Z, C and Inhibit.
+use Prim.Native.Nat.{ℕ, zero, suc}
+use mathlib.Core.List.{List}
+use lib.ListN.{set}
+use Rattle.blocks.specs.Blocks.{blockOf, withBlock}
+use Rattle.station.specs.Control.{initializedOf, clearedOf}
+
+-- the memory with the block of each station from 1 to k replaced by g of it
+unfoldable pub eachStation : (List ℕ → List ℕ) → ℕ → List ℕ → List ℕ
+eachStation g zero m = m
+eachStation g (suc k) m = withBlock (eachStation g k m) (suc k) (g (blockOf m (suc k)))
+
+-- I takes v, 0 or 1
+abbrev pub afterI : List ℕ → ℕ → List ℕ
+afterI m v = set m 0 v
+
+-- Z zeroes every register, status, mask, head and fill and sets I to 1
+unfoldable pub afterZ : List ℕ → List ℕ
+afterZ m = afterI (eachStation initializedOf 23 m) 1
+
+-- C does F9 at each A below r of each station
+unfoldable pub afterC : List ℕ → List ℕ
+afterC m = eachStation clearedOf 23 m

@@ -1,0 +1,31 @@
+-- The Look-at-Me reading (01, 'Front panel and common controls'): L, how many of its bits are 1, and the lowest requesting station.
+use Prim.Native.Nat.{ℕ, zero, suc, _+_, _*_, _^_}
+use mathlib.Core.List.{List}
+use mathlib.Core.Bool.{cond}
+use lib.Dec.{ltb, eqb}
+use Rattle.blocks.specs.Blocks.{blockOf}
+use Rattle.station.specs.Block.{requestOf}
+use Rattle.dataway.specs.declared.lam.LamReading.{LamReading}
+
+-- 1 where station n has status AND mask above 0, else 0
+unfoldable pub requests : List ℕ → ℕ → ℕ
+requests m n = cond (eqb (requestOf (blockOf m n)) 0) 0 1
+
+-- L of stations 1 to k: bit N-1 is 1 when station N requests
+unfoldable pub patternTo : ℕ → List ℕ → ℕ
+patternTo zero m = 0
+patternTo (suc k) m = requests m (suc k) * 2 ^ k + patternTo k m
+
+-- how many of stations 1 to k request
+unfoldable pub countTo : ℕ → List ℕ → ℕ
+countTo zero m = 0
+countTo (suc k) m = requests m (suc k) + countTo k m
+
+-- the lowest of stations 1 to k that requests, or 0
+unfoldable pub firstTo : ℕ → List ℕ → ℕ
+firstTo zero m = 0
+firstTo (suc k) m = cond (eqb (firstTo k m) 0) (requests m (suc k) * suc k) (firstTo k m)
+
+-- the reading of all 23 stations
+unfoldable pub lamOf : List ℕ → LamReading
+lamOf m = record { l = patternTo 23 m; count = countTo 23 m; first = firstTo 23 m }

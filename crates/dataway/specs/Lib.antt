@@ -1,0 +1,4 @@
+pub mod Crate
+pub mod Stations
+pub mod Controls
+pub mod Lam

@@ -1,0 +1,28 @@
+-- What reaches one station of the crate: a command, a front event, a module put in. Each is the block's own rule, under `withBlock`.
+use Prim.Native.Nat.{ℕ}
+use mathlib.Core.List.{List}
+use Rattle.blocks.specs.Blocks.{blockOf, withBlock, inhibitOf}
+use Rattle.station.specs.Command.{commandOf}
+use Rattle.station.specs.Front.{frontOf}
+use Rattle.station.specs.Control.{moduleOf}
+use Rattle.station.specs.declared.Reply.{Reply}
+
+-- a command to station N: its answer X, Q and R
+unfoldable pub replyOf : List ℕ → (n a f w : ℕ) → Reply
+replyOf m n a f w = commandOf (blockOf m n) a f w .reply
+
+-- and the memory that it leaves
+unfoldable pub afterCommand : List ℕ → (n a f w : ℕ) → List ℕ
+afterCommand m n a f w = withBlock m n (commandOf (blockOf m n) a f w .block)
+
+-- a front event at station N, under the crate's Inhibit: 1 where it is taken, else 0
+unfoldable pub takenOf : List ℕ → (n a v : ℕ) → ℕ
+takenOf m n a v = frontOf (inhibitOf m) (blockOf m n) a v .taken
+
+-- and the memory that it leaves
+unfoldable pub afterFront : List ℕ → (n a v : ℕ) → List ℕ
+afterFront m n a v = withBlock m n (frontOf (inhibitOf m) (blockOf m n) a v .block)
+
+-- the memory with a module of this kind and r put into station N
+unfoldable pub withModule : List ℕ → (n kind r : ℕ) → List ℕ
+withModule m n kind r = withBlock m n (moduleOf kind r)

@@ -1,0 +1,67 @@
+// Whether a crate memory is fit: any slice, of any length and contents, is judged.
+ghost use mathlib.Core.Path.{_≡_};
+ghost use lib.ListN.{length};
+ghost use Prim.Native.Nat.{_<_};
+ghost use Rattle.station.specs.Cases.{every};
+ghost use Rattle.dataway.specs.Crate.{isFitRest, isFitStation, isFitCrate};
+use crate::INHIBIT;
+use blocks::BLOCK_WORDS;
+use blocks::MEMORY_WORDS;
+use blocks::STATIONS;
+use panel::fitness::is_fit_block;
+
+// Block 0 after Inhibit.
+fn is_rest_zero(memory: &[u32]) -> bool
+    requires { ⌜ length (now memory) ≡ 768 ⌝ }
+    ensures { λ r. ⌜ r ≡ every 31 (isFitRest (now (memory .entry))) ⌝ }
+{
+    let mut i = 0;
+    while i < 31 {
+        if memory[1 + i] != 0 {
+            return false;
+        }
+        i += 1;
+    }
+    true
+}
+
+// The block of station 1 + i.
+fn is_fit_station(memory: &[u32], i: usize) -> bool
+    requires { ⌜ length (now memory) ≡ 768 ⌝ ∗ ⌜ i < 23 ⌝ }
+    ensures { λ r. ⌜ r ≡ isFitStation (now (memory .entry)) i ⌝ }
+{
+    let from = BLOCK_WORDS * (1 + i);
+    let to = from + BLOCK_WORDS;
+    is_fit_block(&memory[from..to])
+}
+
+// The blocks of all stations.
+fn are_stations_fit(memory: &[u32]) -> bool
+    requires { ⌜ length (now memory) ≡ 768 ⌝ }
+    ensures { λ r. ⌜ r ≡ every 23 (isFitStation (now (memory .entry))) ⌝ }
+{
+    let mut i = 0;
+    while i < STATIONS {
+        if !is_fit_station(memory, i) {
+            return false;
+        }
+        i += 1;
+    }
+    true
+}
+
+// The whole memory.
+pub fn is_fit_crate(memory: &[u32]) -> bool
+    ensures { λ r. ⌜ r ≡ isFitCrate (now (memory .entry)) ⌝ }
+{
+    if memory.len() != MEMORY_WORDS {
+        return false;
+    }
+    if 2 <= memory[INHIBIT] {
+        return false;
+    }
+    if !is_rest_zero(memory) {
+        return false;
+    }
+    are_stations_fit(memory)
+}

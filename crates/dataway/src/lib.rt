@@ -1,0 +1,52 @@
+// The Dataway of one crate, over the lent crate memory: what reaches a station of it, the common controls, the Look-at-Me reading, and the
+// test whether the memory is fit.
+ghost use mathlib.Core.Path.{_≡_};
+ghost use Prim.Native.Nat.{_≤_};
+ghost use Rattle.station.specs.Block.{leastOf, mostOf};
+ghost use Rattle.dataway.specs.Crate.{FitCrate};
+ghost use Rattle.dataway.specs.Stations.{replyOf, afterCommand, takenOf, afterFront, withModule};
+use blocks::BLOCK_WORDS;
+use station::Reply;
+
+pub mod control;
+pub mod fitness;
+pub mod lam;
+
+// Where Inhibit stands in the memory.
+pub const INHIBIT: usize = 0;
+
+// One command to station n.
+pub fn command(memory: &mut [u32], n: u32, a: u32, f: u32, w: u32) -> Reply
+    requires { ⌜ FitCrate (now memory) ⌝ }
+    requires { ⌜ (1 ≤ n) × (n ≤ 23) × (a ≤ 15) × (f ≤ 31) × (w ≤ 16777215) ⌝ }
+    ensures answer { λ r. ⌜ r ≡ replyOf (now (memory .entry)) n a f w ⌝ }
+    ensures memory { λ _. ⌜ now (memory .exit) ≡ afterCommand (now (memory .entry)) n a f w ⌝ }
+{
+    let from = BLOCK_WORDS * n as usize;
+    let to = from + BLOCK_WORDS;
+    station::command(&mut memory[from..to], a, f, w)
+}
+
+// One front event at station n: 1 where it is taken, else 0.
+pub fn front_event(memory: &mut [u32], n: u32, a: u32, v: u32) -> u32
+    requires { ⌜ FitCrate (now memory) ⌝ }
+    requires { ⌜ (1 ≤ n) × (n ≤ 23) × (a ≤ 15) × (v ≤ 16777215) ⌝ }
+    ensures answer { λ r. ⌜ r ≡ takenOf (now (memory .entry)) n a v ⌝ }
+    ensures memory { λ _. ⌜ now (memory .exit) ≡ afterFront (now (memory .entry)) n a v ⌝ }
+{
+    let inhibit = memory[INHIBIT];
+    let from = BLOCK_WORDS * n as usize;
+    let to = from + BLOCK_WORDS;
+    panel::front::front_event(&mut memory[from..to], inhibit, a, v)
+}
+
+// Puts a module with r registers into station n.
+pub fn put_module(memory: &mut [u32], n: u32, kind: u32, r: u32)
+    requires { ⌜ FitCrate (now memory) ⌝ }
+    requires { ⌜ (1 ≤ n) × (n ≤ 23) × (kind ≤ 5) × (leastOf kind ≤ r) × (r ≤ mostOf kind) ⌝ }
+    ensures { λ _. ⌜ now (memory .exit) ≡ withModule (now (memory .entry)) n kind r ⌝ }
+{
+    let from = BLOCK_WORDS * n as usize;
+    let to = from + BLOCK_WORDS;
+    panel::control::put_module(&mut memory[from..to], kind, r);
+}
