@@ -54,7 +54,7 @@ slice-write-memory c = omega (
 )
 
 same-length : tie.Need-same-length Inv-loop μ-loop
-same-length c = length-set (c .before .loop .memory) 0 1 ∙ ap length (c .before .loop .inv .1)
+same-length c = length-set (c .before .loop .memory) 0 _ ∙ ap length (c .before .loop .inv .1)
     ∙ each-fit initializedOf initialized-fit (c .before .before .before .args .memory .now) (c .before .before .before .pre)
     (c .before .loop .k) (c .before .loop .inv .0) .size ∙ sym (c .before .before .before .pre .size)
 

@@ -1,0 +1,5 @@
+pub mod StepLaws
+pub mod Sentences
+pub mod Arms
+pub mod Samples
+pub mod Bench

@@ -1,0 +1,112 @@
+-- That demand 3 is about something: steps of the crate in an order that may be changed, and in one that may not.
+-- Assumes nothing.
+use mathlib.Core.Path.{_≡_, refl, sym, ap, _∙_}
+use mathlib.Core.Bool.{Bool, true, false, true≢false}
+use mathlib.Core.List.{List, [], _∷_}
+use Prim.Native.Nat.{ℕ, zero, suc, _≤_, _<_}
+use native.Mathlib.Omega.{arith}
+use borrow.Author.Tests.{eqb-true}
+use lib.ListN.{length, getD, replicate}
+use lib.Dec.{eqb}
+use Rattle.regroup.specs.Lists.{Common, Rearranged, Alike}
+use Rattle.regroup.proofs.Whole.{as-long, step-at}
+use Rattle.dataway.specs.Crate.{FitCrate}
+use Rattle.step.specs.Verdict.{frontVerdict, scanVerdict}
+use Rattle.step.specs.declared.Step.the-variants.{Front, Z, Scan}
+use Rattle.step.specs.declared.Reading.the-variants.{Good}
+use Rattle.controller.specs.Steps.{Order, order, leaves, gives, touches}
+use Rattle.controller.specs.Regrouping.{beyond}
+use Rattle.controller.proofs.StepLaws.{crate-regroup}
+
+-- an event at station 3, a scan from 3 to 5 that is refused because no buffer is lent, an event at station 5, and Z
+abbrev pub at3 : Order
+at3 = order (Good (Front 3 0 1)) []
+
+abbrev pub unlent : Order
+unlent = order (Good (Scan 3 0 0 5 1)) []
+
+abbrev pub at5 : Order
+at5 = order (Good (Front 5 0 1)) []
+
+abbrev pub all : Order
+all = order (Good Z) []
+
+touches-3 : (k : ℕ) → touches at3 k ≡ eqb 3 k
+unfolding frontVerdict
+touches-3 k = refl
+
+touches-5 : (k : ℕ) → touches at5 k ≡ eqb 5 k
+unfolding frontVerdict
+touches-5 k = refl
+
+touches-unlent : (k : ℕ) → touches unlent k ≡ false
+unfolding scanVerdict
+touches-unlent k = refl
+
+touches-all : (k : ℕ) → touches all k ≡ true
+touches-all k = refl
+
+-- ---- a rearrangement
+abbrev pub places : List ℕ
+places = 2 ∷ 1 ∷ 0 ∷ 3 ∷ []
+
+-- the two events change places past the refused scan; Z stays last
+pub sample : Rearranged touches beyond (at3 ∷ unlent ∷ at5 ∷ all ∷ []) (at5 ∷ unlent ∷ at3 ∷ all ∷ []) places
+sample = record { second = refl; places = below; each = every; once = once; order = kept }
+  where
+    below : (k : ℕ) → k < 4 → getD places k 0 < 4
+    below zero h = omega arith
+    below (suc zero) h = omega arith
+    below (suc (suc zero)) h = omega arith
+    below (suc (suc (suc zero))) h = omega arith
+    below (suc (suc (suc (suc k)))) h = absurd (omega arith)
+
+    every : (i : ℕ) → i < 4 → (k : ℕ) × (k < 4) × (getD places k 0 ≡ i)
+    every zero h = (2, omega arith, refl)
+    every (suc zero) h = (1, omega arith, refl)
+    every (suc (suc zero)) h = (0, omega arith, refl)
+    every (suc (suc (suc zero))) h = (3, omega arith, refl)
+    every (suc (suc (suc (suc i)))) h = absurd (omega arith)
+
+    back : ℕ → ℕ
+    back n = getD places n 0
+
+    there : (k : ℕ) → k < 4 → back (getD places k 0) ≡ k
+    there zero h = refl
+    there (suc zero) h = refl
+    there (suc (suc zero)) h = refl
+    there (suc (suc (suc zero))) h = refl
+    there (suc (suc (suc (suc k)))) h = absurd (omega arith)
+
+    once : (j k : ℕ) → j < 4 → k < 4 → getD places j 0 ≡ getD places k 0 → j ≡ k
+    once j k a b e = sym (there j a) ∙ ap back e ∙ there k b
+
+    kept : (j k : ℕ) → j < k → k < 4
+        → Common touches (getD (at5 ∷ unlent ∷ at3 ∷ all ∷ []) j beyond) (getD (at5 ∷ unlent ∷ at3 ∷ all ∷ []) k beyond) → getD places j 0 < getD places k 0
+    kept zero (suc zero) a b c = absurd (true≢false (sym (c .4) ∙ touches-unlent (c .0)))
+    kept zero (suc (suc zero)) a b c =
+        absurd (omega (arith, eqb-true 5 (c .0) (sym (touches-5 (c .0)) ∙ c .3), eqb-true 3 (c .0) (sym (touches-3 (c .0)) ∙ c .4)))
+    kept (suc zero) (suc (suc zero)) a b c = absurd (true≢false (sym (c .3) ∙ touches-unlent (c .0)))
+    kept zero (suc (suc (suc zero))) a b c = omega arith
+    kept (suc zero) (suc (suc (suc zero))) a b c = omega arith
+    kept (suc (suc zero)) (suc (suc (suc zero))) a b c = omega arith
+    kept j zero a b c = absurd (omega arith)
+    kept (suc j) (suc zero) a b c = absurd (omega arith)
+    kept (suc (suc j)) (suc (suc zero)) a b c = absurd (omega arith)
+    kept (suc (suc (suc j))) (suc (suc (suc zero))) a b c = absurd (omega arith)
+    kept j (suc (suc (suc (suc k)))) a b c = absurd (omega arith)
+
+-- and so the two lists end alike, from every fit crate
+pub sample-alike : (m : List ℕ) → FitCrate m → Alike leaves gives m (at3 ∷ unlent ∷ at5 ∷ all ∷ []) (at5 ∷ unlent ∷ at3 ∷ all ∷ []) places
+sample-alike m f = crate-regroup m f (at3 ∷ unlent ∷ at5 ∷ all ∷ []) (at5 ∷ unlent ∷ at3 ∷ all ∷ []) places sample
+
+-- ---- no rearrangement: an event may not pass Z, whatever places are named
+pub no-sample : (p : List ℕ) → Rearranged touches beyond (at3 ∷ all ∷ []) (all ∷ at3 ∷ []) p → ⊥
+no-sample p r =
+    let l : 2 ≡ length p = as-long touches beyond (at3 ∷ all ∷ []) (all ∷ at3 ∷ []) p r in
+    let up : getD p 0 0 < getD p 1 0 = r .order 0 1 (omega arith) (omega arith) (3, omega arith, omega arith, touches-all 3, touches-3 3) in
+    let e : getD p 0 0 ≡ 0 = omega (arith, r .places 1 (omega arith)) in
+    let s : all ≡ at3 = rw e at (step-at touches beyond (at3 ∷ all ∷ []) (all ∷ at3 ∷ []) p r 0 (omega arith)) in
+    let t : Good Z ≡ Good (Front 3 0 1) = ap (λ (o : Order). o .reading) s in
+    let z : _≡_ {A = ℕ} 0 1 = cc in
+    omega arith

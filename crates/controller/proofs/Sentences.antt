@@ -1,0 +1,143 @@
+-- Sentences of 01 about a step: every step leaves the crate fit, a refusal changes nothing, from a fit crate only fields and buffer decide whether a step is
+-- refused; and the words of an answer tell the answer.
+-- Assumes nothing.
+use mathlib.Core.Path.{_≡_, refl, sym, ap, _∙_}
+use mathlib.Core.Bool.{Bool, true, false, false≢true, cond}
+use mathlib.Core.List.{List, [], _∷_}
+use Prim.Native.Nat.{ℕ, _≤_}
+use native.Mathlib.Omega.{arith}
+use lib.Dec.{eqb}
+use lib.ListN.{length, getD, drop, length-append, length-drop}
+use Rattle.transfer.specs.Cycle.{Ended, bufferAfter, reads}
+use Rattle.transfer.specs.Scan.{scanOf}
+use Rattle.transfer.specs.Repeat.{repeatOf}
+use Rattle.transfer.specs.Stop.{stopOf}
+use Rattle.transfer.proofs.Ends.{scan-words, repeat-words, stop-words}
+use Rattle.dataway.specs.Crate.{isFitCrate, FitCrate}
+use Rattle.step.specs.Verdict.{verdictOf, stepVerdict, isFine}
+use Rattle.step.proofs.Fine.{scan-fields, repeat-fields, stop-fields}
+use Rattle.step.proofs.Numbers.{row, row-number}
+use Rattle.controller.specs.Steps.{Order, Out, Performed, refused, actOf, judgedOf, doneOf, stepOf, leaves, gives}
+use Rattle.controller.specs.Answers.{answerWords}
+use Rattle.controller.proofs.StepLaws.{law, step-done}
+use Rattle.step.specs.declared.Refusal.{Refusal}
+use Rattle.step.specs.declared.Refusal.the-variants.{UnfitCrate}
+use Rattle.step.specs.declared.Step.{Step}
+use Rattle.step.specs.declared.Step.the-variants.{Command, Front, Z, C, Inhibit, LookAtMe, Scan, Repeat, Stop}
+use Rattle.step.specs.declared.Reading.{Reading}
+use Rattle.step.specs.declared.Reading.the-variants.{Good, Bad}
+use Rattle.step.specs.declared.Verdict.{Verdict}
+use Rattle.step.specs.declared.Verdict.the-variants.{Fine, Refuse}
+use Rattle.controller.specs.declared.Answer.{Answer}
+use Rattle.controller.specs.declared.Answer.the-variants.{Replied, Taken, Done, Looked, Transferred, Refused}
+
+-- every step leaves the crate fit
+pub step-fit : (m : List ℕ) (o : Order) → FitCrate m → FitCrate (leaves m o)
+step-fit m o f = law .keeps m o f
+
+abbrev isRefused : Answer → Bool
+isRefused (Replied p) = false
+isRefused (Taken v) = false
+isRefused Done = false
+isRefused (Looked p) = false
+isRefused (Transferred p) = false
+isRefused (Refused q) = true
+
+-- a step that is done does not answer a refusal
+act-answers : (m : List ℕ) (s : Step) (b : List ℕ) → isRefused (actOf m s b .out .answer) ≡ false
+act-answers m (Command n a f w) b = refl
+act-answers m (Front n a v) b = refl
+act-answers m Z b = refl
+act-answers m C b = refl
+act-answers m (Inhibit v) b = refl
+act-answers m LookAtMe b = refl
+act-answers m (Scan n a f to limit) b = refl
+act-answers m (Repeat n a f limit tries) b = refl
+act-answers m (Stop n a f limit) b = refl
+
+judged-same : (v : Verdict) (m : List ℕ) (r : Reading) (b : List ℕ) → isRefused (judgedOf v m r b .out .answer) ≡ true
+    → (judgedOf v m r b .memory ≡ m) × (judgedOf v m r b .out .buffer ≡ b)
+judged-same Fine m (Good s) b e = absurd (false≢true (sym (act-answers m s b) ∙ e))
+judged-same Fine m (Bad q) b e = (refl, refl)
+judged-same (Refuse q) m r b e = (refl, refl)
+
+judged-by : (v : Verdict) (m m′ : List ℕ) (r : Reading) (b : List ℕ) → isRefused (judgedOf v m r b .out .answer) ≡ true
+    → judgedOf v m′ r b .out ≡ judgedOf v m r b .out
+judged-by Fine m m′ (Good s) b e = absurd (false≢true (sym (act-answers m s b) ∙ e))
+judged-by Fine m m′ (Bad q) b e = refl
+judged-by (Refuse q) m m′ r b e = refl
+
+-- a refusal changes nothing, in the crate or in the buffer
+pub refused-same : (m : List ℕ) (o : Order) (q : Refusal) → gives m o .answer ≡ Refused q → (leaves m o ≡ m) × (gives m o .buffer ≡ o .buffer)
+unfolding stepOf doneOf
+refused-same m o q e = go (isFitCrate m) (ap isRefused e)
+  where
+    go : (t : Bool) → isRefused (cond t (judgedOf (verdictOf (o .reading) (o .buffer)) m (o .reading) (o .buffer)) (refused UnfitCrate m (o .buffer)) .out .answer) ≡ true
+        → (cond t (judgedOf (verdictOf (o .reading) (o .buffer)) m (o .reading) (o .buffer)) (refused UnfitCrate m (o .buffer)) .memory ≡ m)
+        × (cond t (judgedOf (verdictOf (o .reading) (o .buffer)) m (o .reading) (o .buffer)) (refused UnfitCrate m (o .buffer)) .out .buffer ≡ o .buffer)
+    go true h = judged-same (verdictOf (o .reading) (o .buffer)) m (o .reading) (o .buffer) h
+    go false h = (refl, refl)
+
+-- from a fit crate only a step's fields and its buffer decide whether it is refused, and with which number
+pub refused-by : (m m′ : List ℕ) (o : Order) (q : Refusal) → FitCrate m → FitCrate m′ → gives m o .answer ≡ Refused q → gives m′ o ≡ gives m o
+unfolding doneOf
+refused-by m m′ o q f f′ e =
+    ap (λ (p : Performed). p .out) (step-done m′ o f′)
+    ∙ judged-by (verdictOf (o .reading) (o .buffer)) m m′ (o .reading) (o .buffer)
+    (ap (λ (p : Performed). isRefused (p .out .answer)) (sym (step-done m o f)) ∙ ap isRefused e)
+    ∙ sym (ap (λ (p : Performed). p .out) (step-done m o f))
+
+-- ---- a buffer is as long afterwards as it was: a transfer stores at most `limit` words, and so many were lent
+ended-long : (e : Ended) (b : List ℕ) (limit : ℕ) → length (e .words) ≤ limit → limit ≤ length b → length (bufferAfter e b) ≡ length b
+ended-long e b limit h l = length-append (e .words) (drop (length (e .words)) b) ∙ omega (arith, length-drop (length (e .words)) b)
+
+act-long : (m : List ℕ) (s : Step) (b : List ℕ) → isFine (stepVerdict s b) ≡ true → length (actOf m s b .out .buffer) ≡ length b
+act-long m (Command n a f w) b e = refl
+act-long m (Front n a v) b e = refl
+act-long m Z b e = refl
+act-long m C b e = refl
+act-long m (Inhibit v) b e = refl
+act-long m LookAtMe b e = refl
+act-long m (Scan n a f to limit) b e =
+    let h = scan-fields n a f to limit (length b) e in
+    ended-long (scanOf m n a f to limit) b limit (scan-words (reads f) to limit m n a (h .2)) (h .8)
+act-long m (Repeat n a f limit tries) b e =
+    let h = repeat-fields n a f limit tries (length b) e in
+    ended-long (repeatOf m n a f limit tries) b limit (repeat-words (reads f) n a limit tries m) (h .8)
+act-long m (Stop n a f limit) b e =
+    let h = stop-fields n a f limit (length b) e in
+    ended-long (stopOf m n a f limit) b limit (stop-words (reads f) n a limit m) (h .6)
+
+judged-long : (v : Verdict) (m : List ℕ) (r : Reading) (b : List ℕ) → verdictOf r b ≡ v → length (judgedOf v m r b .out .buffer) ≡ length b
+judged-long Fine m (Good s) b e = act-long m s b (ap isFine e)
+judged-long Fine m (Bad q) b e = refl
+judged-long (Refuse q) m r b e = refl
+
+pub step-long : (m : List ℕ) (o : Order) → length (gives m o .buffer) ≡ length (o .buffer)
+unfolding stepOf doneOf
+step-long m o = go (isFitCrate m)
+  where
+    go : (t : Bool) → length (cond t (judgedOf (verdictOf (o .reading) (o .buffer)) m (o .reading) (o .buffer)) (refused UnfitCrate m (o .buffer)) .out .buffer) ≡ length (o .buffer)
+    go true = judged-long (verdictOf (o .reading) (o .buffer)) m (o .reading) (o .buffer) refl
+    go false = refl
+
+-- the four words of an answer tell the answer
+abbrev answerFrom : List ℕ → Answer
+answerFrom ws =
+    cond (eqb (getD ws 0 0) 0) (Refused (row (getD ws 1 0)))
+    (cond (eqb (getD ws 0 0) 1) (Replied (record { x = getD ws 1 0; q = getD ws 2 0; r = getD ws 3 0 }))
+    (cond (eqb (getD ws 0 0) 2) (Taken (getD ws 1 0))
+    (cond (eqb (getD ws 0 0) 3) Done
+    (cond (eqb (getD ws 0 0) 4) (Looked (record { l = getD ws 1 0; count = getD ws 2 0; first = getD ws 3 0 }))
+    (Transferred (record { end = getD ws 1 0; words = getD ws 2 0; cycles = getD ws 3 0 }))))))
+
+answer-back : (a : Answer) → answerFrom (answerWords a) ≡ a
+answer-back (Refused q) = ap Refused (row-number q)
+answer-back (Replied p) = refl
+answer-back (Taken v) = refl
+answer-back Done = refl
+answer-back (Looked p) = refl
+answer-back (Transferred p) = refl
+
+pub words-answer : (a b : Answer) → answerWords a ≡ answerWords b → a ≡ b
+words-answer a b e = sym (answer-back a) ∙ ap answerFrom e ∙ answer-back b

@@ -1,0 +1,122 @@
+-- Every step obeys the one law (01, 'Inspection of the contracts', 4): one case a kind of step, none a kind of module. And so lists may be regrouped.
+-- Assumes nothing.
+use mathlib.Core.Path.{_≡_, refl, ap}
+use mathlib.Core.Bool.{Bool, true, false, cond, _&&_}
+use mathlib.Core.List.{List, _++_}
+use Prim.Native.Nat.{ℕ}
+use borrow.Author.Tests.{eq-eqb, le-leb}
+use lib.ListN.{length, drop}
+use Rattle.regroup.specs.Local.{Local}
+use Rattle.regroup.specs.Lists.{Law}
+use Rattle.regroup.proofs.Local.{local-none, local-map, law-of}
+use Rattle.regroup.proofs.Whole.{regroup}
+use Rattle.station.specs.declared.Reply.{Reply}
+use Rattle.dataway.specs.Crate.{FitCrate}
+use Rattle.dataway.specs.Stations.{replyOf, afterCommand, takenOf, afterFront}
+use Rattle.dataway.proofs.CrateLaws.{facts-crate}
+use Rattle.dataway.proofs.Locality.{crate-size, local-command, local-front, local-z, local-c, local-i, local-lam}
+use Rattle.transfer.specs.Cycle.{Told, told}
+use Rattle.transfer.specs.Scan.{scanOf}
+use Rattle.transfer.specs.Repeat.{repeatOf}
+use Rattle.transfer.specs.Stop.{stopOf}
+use Rattle.transfer.proofs.Locality.{local-scan, local-repeat, local-stop}
+use Rattle.step.specs.Verdict.{verdictOf, stepVerdict, isFine}
+use Rattle.step.specs.Touches.{reach, reachOf}
+use Rattle.step.proofs.Fine.{command-fine, front-fine, inhibit-fine, scan-fine, repeat-fine, stop-fine}
+use Rattle.step.specs.declared.Refusal.the-variants.{UnfitCrate}
+use Rattle.step.specs.declared.Step.{Step}
+use Rattle.step.specs.declared.Step.the-variants.{Command, Front, Z, C, Inhibit, LookAtMe, Scan, Repeat, Stop}
+use Rattle.step.specs.declared.Reading.{Reading}
+use Rattle.step.specs.declared.Reading.the-variants.{Good, Bad}
+use Rattle.step.specs.declared.Verdict.{Verdict}
+use Rattle.step.specs.declared.Verdict.the-variants.{Fine, Refuse}
+use Rattle.controller.specs.declared.Answer.the-variants.{Replied, Taken, Transferred, Refused}
+use Rattle.controller.specs.Steps.{Order, Out, Performed, refused, actOf, judgedOf, doneOf, stepOf, leaves, gives, touches}
+use Rattle.controller.specs.Regrouping.{beyond, Regrouping}
+
+-- two ways to say one thing of fit crates
+local-same : {Out : Type 0} (on : ℕ → Bool) (f f′ : List ℕ → List ℕ) (g g′ : List ℕ → Out)
+    → ((m : List ℕ) → FitCrate m → f′ m ≡ f m) → ((m : List ℕ) → FitCrate m → g′ m ≡ g m) → Local FitCrate on f g → Local FitCrate on f′ g′
+local-same on f f′ g g′ ef eg l = record {
+  keeps = λ m q. rw (ef m q) (l .keeps m q);
+  frame = λ m q n a b h. rw (ef m q) (l .frame m q n a b h);
+  reads = λ m m′ q q′ s. rw (ef m q, ef m′ q′, eg m q, eg m′ q′) (l .reads m m′ q q′ s);
+}
+
+-- what a transfer tells, with the buffer that it was lent
+abbrev toldOut : List ℕ → Told → Out
+toldOut b t = record {
+  answer = Transferred (record { end = t .end; words = length (t .words); cycles = t .cycles });
+  buffer = t .words ++ drop (length (t .words)) b;
+}
+
+-- ---- one case a kind of step
+good : (s : Step) (b : List ℕ) → isFine (stepVerdict s b) ≡ true
+    → Local FitCrate (reach s) (λ (m : List ℕ). actOf m s b .memory) (λ (m : List ℕ). actOf m s b .out)
+good (Command n a f w) b e =
+    let h = command-fine n a f w e in
+    let on = reach (Command n a f w) in
+    local-map FitCrate crate-size on (λ (m : List ℕ). afterCommand m n a f w) (λ (m : List ℕ). replyOf m n a f w)
+    (λ (r : Reply). record { answer = Replied r; buffer = b })
+    (local-command on n (h .0) (h .1) (eq-eqb n n refl) a f w (h .2) (h .4))
+good (Front n a v) b e =
+    let h = front-fine n a v e in
+    let on = reach (Front n a v) in
+    local-map FitCrate crate-size on (λ (m : List ℕ). afterFront m n a v) (λ (m : List ℕ). takenOf m n a v)
+    (λ (t : ℕ). record { answer = Taken t; buffer = b })
+    (local-front on n (h .0) (h .1) (eq-eqb n n refl) a v (h .2) (h .3))
+good Z b e = local-z (reach Z) (λ n p q. refl) (λ (m : List ℕ). actOf m Z b .out)
+good C b e = local-c (reach C) (λ n p q. refl) (λ (m : List ℕ). actOf m C b .out)
+good (Inhibit v) b e = local-i (reach (Inhibit v)) (λ n p q. refl) (λ (m : List ℕ). actOf m (Inhibit v) b .out) v (inhibit-fine v e)
+good LookAtMe b e = local-lam (reach LookAtMe) (λ n p q. refl) (λ (m : List ℕ). actOf m LookAtMe b .out)
+good (Scan n a f to limit) b e =
+    let h = scan-fine n a f to limit (length b) e in
+    let on = reach (Scan n a f to limit) in
+    local-map FitCrate crate-size on (λ (m : List ℕ). scanOf m n a f to limit .memory) (λ (m : List ℕ). told (scanOf m n a f to limit)) (toldOut b)
+    (local-scan n a (h .0) (h .1) on f to limit (h .2) (λ i p q. rw (le-leb n i p, le-leb i to q)))
+good (Repeat n a f limit tries) b e =
+    let h = repeat-fine n a f limit tries (length b) e in
+    let on = reach (Repeat n a f limit tries) in
+    local-map FitCrate crate-size on (λ (m : List ℕ). repeatOf m n a f limit tries .memory) (λ (m : List ℕ). told (repeatOf m n a f limit tries)) (toldOut b)
+    (local-repeat n a (h .0) (h .2) on f limit tries (h .1) (eq-eqb n n refl))
+good (Stop n a f limit) b e =
+    let h = stop-fine n a f limit (length b) e in
+    let on = reach (Stop n a f limit) in
+    local-map FitCrate crate-size on (λ (m : List ℕ). stopOf m n a f limit .memory) (λ (m : List ℕ). told (stopOf m n a f limit)) (toldOut b)
+    (local-stop n a (h .0) (h .2) on f limit (h .1) (eq-eqb n n refl))
+
+-- ---- any step, refused or not
+local-done : (o : Order) → Local FitCrate (touches o) (λ (m : List ℕ). doneOf m o .memory) (λ (m : List ℕ). doneOf m o .out)
+unfolding doneOf
+local-done o = go (o .reading) (o .buffer) (verdictOf (o .reading) (o .buffer)) refl
+  where
+    go : (r : Reading) (b : List ℕ) (v : Verdict) → verdictOf r b ≡ v
+        → Local FitCrate (λ (k : ℕ). isFine v && reachOf r k) (λ (m : List ℕ). judgedOf v m r b .memory) (λ (m : List ℕ). judgedOf v m r b .out)
+    go (Good s) b Fine e = good s b (ap isFine e)
+    go (Bad q) b Fine e = local-none FitCrate crate-size (λ (k : ℕ). false) (record { answer = Refused q; buffer = b })
+    go r b (Refuse q) e = local-none FitCrate crate-size (λ (k : ℕ). false) (record { answer = Refused q; buffer = b })
+
+-- from a fit crate 9 does not come
+pub step-done : (m : List ℕ) (o : Order) → FitCrate m → stepOf m o ≡ doneOf m o
+unfolding stepOf
+step-done m o q = ap (λ (t : Bool). cond t (doneOf m o) (refused UnfitCrate m (o .buffer))) (facts-crate m q)
+
+local-step : (o : Order) → Local FitCrate (touches o) (λ (m : List ℕ). leaves m o) (λ (m : List ℕ). gives m o)
+local-step o =
+    local-same (touches o) (λ (m : List ℕ). doneOf m o .memory) (λ (m : List ℕ). leaves m o)
+    (λ (m : List ℕ). doneOf m o .out) (λ (m : List ℕ). gives m o)
+    (λ m q. ap (λ (p : Performed). p .memory) (step-done m o q))
+    (λ m q. ap (λ (p : Performed). p .out) (step-done m o q))
+    (local-done o)
+
+-- THE LAW: a step from a fit crate keeps it fit, changes only the blocks that it touches, and I, and reads only those
+pub law : Law leaves gives FitCrate touches
+law = law-of leaves gives FitCrate touches crate-size local-step
+
+-- a step that is done leaves the crate fit
+pub done-fit : (m : List ℕ) (o : Order) → FitCrate m → FitCrate (doneOf m o .memory)
+done-fit m o q = local-done o .keeps m q
+
+-- DEMAND 3
+pub crate-regroup : Regrouping
+crate-regroup m q xs ys p r = regroup leaves gives FitCrate touches law beyond m q xs ys p r

@@ -1,0 +1,39 @@
+-- `perform` meets its contract: a reading that is no step is refused as it says, and any other is its step.
+use borrow.Author.Needs.{needs}
+use Rattle.controller.proofs.Arms.{bad-done}
+use Rattle.controller.proofs.perform.Statement.{statement}
+use Rattle.controller.proofs.perform.Tie as tie
+
+enum-known-reading : tie.Need-enum-known-reading
+enum-known-reading c = search needs
+
+perform-step-requires : tie.Need-perform-step-requires
+perform-step-requires c κs = search needs
+
+enum-known-reading-2 : tie.Need-enum-known-reading-2
+enum-known-reading-2 c = search needs
+
+same-length : tie.Need-same-length
+same-length c = search needs
+
+same-length-2 : tie.Need-same-length-2
+same-length-2 c = search needs
+
+returns : tie.Need-returns
+returns c = rw (c .before .before .before .before .before .before .before .before .reading .given .1)
+    (c .before .before .before .before .perform-step .ensures)
+
+returns-2 : tie.Need-returns-2
+returns-2 c = bad-done _ _ (c .before .before .before .before .before .pre) _ _ (c .before .reading2 .given .1)
+
+pub perform-spec : {M : Type 1} → statement M
+perform-spec =
+    tie.close
+    (tie.spec
+    enum-known-reading
+    perform-step-requires
+    enum-known-reading-2
+    same-length
+    same-length-2
+    returns
+    returns-2)

@@ -1,0 +1,92 @@
+-- One step: the memory that it leaves, its answer, and its buffer afterwards. First 9, then 1, then the fields from left to right, 8 last; a refusal
+-- changes nothing.
+use Prim.Native.Nat.{ℕ}
+use mathlib.Core.Bool.{Bool, cond}
+use mathlib.Core.List.{List}
+use Rattle.dataway.specs.Crate.{isFitCrate}
+use Rattle.dataway.specs.Stations.{replyOf, afterCommand, takenOf, afterFront}
+use Rattle.dataway.specs.Controls.{afterZ, afterC, afterI}
+use Rattle.dataway.specs.Lam.{lamOf}
+use Rattle.transfer.specs.Cycle.{Ended, transferOf, bufferAfter}
+use Rattle.transfer.specs.Scan.{scanOf}
+use Rattle.transfer.specs.Repeat.{repeatOf}
+use Rattle.transfer.specs.Stop.{stopOf}
+use Rattle.step.specs.Verdict.{verdictOf}
+use Rattle.step.specs.Touches.{touchesOf}
+use Rattle.step.specs.declared.Refusal.{Refusal}
+use Rattle.step.specs.declared.Refusal.the-variants.{UnfitCrate}
+use Rattle.step.specs.declared.Step.{Step}
+use Rattle.step.specs.declared.Step.the-variants.{Command, Front, Z, C, Inhibit, LookAtMe, Scan, Repeat, Stop}
+use Rattle.step.specs.declared.Reading.{Reading}
+use Rattle.step.specs.declared.Reading.the-variants.{Good, Bad}
+use Rattle.step.specs.declared.Verdict.{Verdict}
+use Rattle.step.specs.declared.Verdict.the-variants.{Fine, Refuse}
+use Rattle.controller.specs.declared.Answer.{Answer}
+use Rattle.controller.specs.declared.Answer.the-variants.{Replied, Taken, Done, Looked, Transferred, Refused}
+
+-- a step of a list: its reading, and the words of the buffer that it is handed
+pub record Order : Type 0 where
+  pub reading : Reading
+  pub buffer : List ℕ
+
+abbrev pub order : Reading → List ℕ → Order
+order r b = record { reading = r; buffer = b }
+
+-- what a step gives back: its answer, and its buffer afterwards
+pub record Out : Type 0 where
+  pub answer : Answer
+  pub buffer : List ℕ
+
+-- all that a step comes to: the memory that it leaves, and what it gives back
+pub record Performed : Type 0 where
+  pub memory : List ℕ
+  pub out : Out
+
+abbrev pub performed : List ℕ → Answer → List ℕ → Performed
+performed m a b = record { memory = m; out = record { answer = a; buffer = b } }
+
+-- a block transfer that ended so, lent the buffer b
+abbrev pub transferred : Ended → List ℕ → Performed
+transferred e b = performed (e .memory) (Transferred (transferOf e)) (bufferAfter e b)
+
+-- a refusal returns only its number and changes nothing
+abbrev pub refused : Refusal → List ℕ → List ℕ → Performed
+refused q m b = performed m (Refused q) b
+
+-- what each of the nine kinds of step does, where it is not refused
+abbrev pub actOf : List ℕ → Step → List ℕ → Performed
+actOf m (Command n a f w) b = performed (afterCommand m n a f w) (Replied (replyOf m n a f w)) b
+actOf m (Front n a v) b = performed (afterFront m n a v) (Taken (takenOf m n a v)) b
+actOf m Z b = performed (afterZ m) Done b
+actOf m C b = performed (afterC m) Done b
+actOf m (Inhibit v) b = performed (afterI m v) Done b
+actOf m LookAtMe b = performed m (Looked (lamOf m)) b
+actOf m (Scan n a f to limit) b = transferred (scanOf m n a f to limit) b
+actOf m (Repeat n a f limit tries) b = transferred (repeatOf m n a f limit tries) b
+actOf m (Stop n a f limit) b = transferred (stopOf m n a f limit) b
+
+-- a step with its verdict
+abbrev pub judgedOf : Verdict → List ℕ → Reading → List ℕ → Performed
+judgedOf Fine m (Good s) b = actOf m s b
+judgedOf Fine m (Bad q) b = refused q m b
+judgedOf (Refuse q) m r b = refused q m b
+
+-- a step from a fit crate: 1, then the fields from left to right, 8 last, else what it does
+unfoldable pub doneOf : List ℕ → Order → Performed
+doneOf m o = judgedOf (verdictOf (o .reading) (o .buffer)) m (o .reading) (o .buffer)
+
+-- a step from any memory: first 9
+unfoldable pub stepOf : List ℕ → Order → Performed
+stepOf m o = cond (isFitCrate m) (doneOf m o) (refused UnfitCrate m (o .buffer))
+
+-- the memory that a step leaves
+abbrev pub leaves : List ℕ → Order → List ℕ
+leaves m o = stepOf m o .memory
+
+-- what it gives back
+abbrev pub gives : List ℕ → Order → Out
+gives m o = stepOf m o .out
+
+-- the stations that it touches, by its fields and its buffer alone; a refused step touches none
+abbrev pub touches : Order → ℕ → Bool
+touches o k = touchesOf (o .reading) (o .buffer) k

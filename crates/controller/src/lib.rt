@@ -1,0 +1,105 @@
+// The crate controller: one step, judged and then done on a fit crate.
+ghost use mathlib.Core.Path.{_≡_};
+ghost use mathlib.Core.Bool.{true};
+ghost use Rattle.dataway.specs.Crate.{FitCrate};
+ghost use Rattle.step.specs.Verdict.{stepVerdict, isFine};
+ghost use Rattle.step.specs.declared.Reading.{Reading};
+ghost use Rattle.controller.specs.Steps.{order, performed, actOf, doneOf};
+use dataway::control;
+use dataway::lam;
+use dataway::lam::LamReading;
+use station::Reply;
+use step::Reading;
+use step::Refusal;
+use step::Step;
+use step::Verdict;
+use transfer::Transfer;
+
+// What a step answers.
+pub enum Answer {
+    // A command: X, Q and R.
+    Replied(Reply),
+    // A front event: 1 where it is taken, else 0.
+    Taken(u32),
+    // Z, C and I.
+    Done,
+    // The Look-at-Me reading: L, count and first.
+    Looked(LamReading),
+    // A scan, a Repeat or a Stop: end, words and cycles.
+    Transferred(Transfer),
+    // A step that is refused.
+    Refused(Refusal),
+}
+
+// Does a step whose fields and buffer are good.
+fn act(memory: &mut [u32], step: Step, buffer: &mut [u32]) -> Answer
+    requires { ⌜ FitCrate (now memory) ⌝ ∗ ⌜ isFine (stepVerdict step (now buffer)) ≡ true ⌝ }
+    ensures { λ r. ⌜ actOf (now (memory .entry)) step (now (buffer .entry)) ≡ performed (now (memory .exit)) r (now (buffer .exit)) ⌝ }
+{
+    match step {
+        Step::Command { n, a, f, w } => Answer::Replied(dataway::command(memory, n, a, f, w)),
+        Step::Front { n, a, v } => Answer::Taken(dataway::front_event(memory, n, a, v)),
+        Step::Z => {
+            control::initialize(memory);
+            Answer::Done
+        }
+        Step::C => {
+            control::clear(memory);
+            Answer::Done
+        }
+        Step::Inhibit { v } => {
+            control::set_inhibit(memory, v);
+            Answer::Done
+        }
+        Step::LookAtMe => Answer::Looked(lam::look_at_me(memory)),
+        Step::Scan { n, a, f, to, limit } => Answer::Transferred(transfer::scan::scan(
+            memory,
+            buffer,
+            n,
+            a,
+            f,
+            to,
+            limit,
+        )),
+        Step::Repeat {
+            n,
+            a,
+            f,
+            limit,
+            tries,
+        } => Answer::Transferred(transfer::repeat::repeat(memory, buffer, n, a, f, limit, tries)),
+        Step::Stop { n, a, f, limit } => Answer::Transferred(transfer::stop::stop(
+            memory,
+            buffer,
+            n,
+            a,
+            f,
+            limit,
+        )),
+    }
+}
+
+// One step on a fit crate: refused, or done.
+pub fn perform_step(memory: &mut [u32], step: Step, buffer: &mut [u32]) -> Answer
+    requires { ⌜ FitCrate (now memory) ⌝ }
+    ensures { λ r. ⌜ doneOf (now (memory .entry)) (order (Reading.Good step) (now (buffer .entry))) ≡ performed (now (memory .exit)) r (now (buffer .exit)) ⌝ }
+    ensures fit { λ _. ⌜ FitCrate (now (memory .exit)) ⌝ }
+{
+    let verdict = step::judge(step, buffer);
+    match verdict {
+        Verdict::Refuse(q) => Answer::Refused(q),
+        Verdict::Fine => act(memory, step, buffer),
+    }
+}
+
+// One reading on a fit crate: a line that is no step is refused as it says.
+pub fn perform(memory: &mut [u32], reading: Reading, buffer: &mut [u32]) -> Answer
+    requires { ⌜ FitCrate (now memory) ⌝ }
+    ensures { λ r. ⌜ doneOf (now (memory .entry)) (order reading (now (buffer .entry))) ≡ performed (now (memory .exit)) r (now (buffer .exit)) ⌝ }
+    ensures fit { λ _. ⌜ FitCrate (now (memory .exit)) ⌝ }
+{
+    match reading {
+        Reading::Good(step) => perform_step(memory, step, buffer),
+        Reading::Bad(q) => Answer::Refused(q),
+    }
+}

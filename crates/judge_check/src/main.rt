@@ -1,0 +1,232 @@
+// Judges steps and crate lines at the edges of each field, and with several faults at once, where the leftmost counts.
+// Writes a line for each: 0 where nothing is wrong, else the number of the refusal.
+use libc::STDOUT_FILENO;
+use step::Module;
+use step::Refusal;
+use step::Step;
+use step::Verdict;
+
+// The longest buffer that is lent here, one word over the highest limit.
+const ROOM: usize = 513;
+
+fn number(verdict: Verdict) -> u32 {
+    match verdict {
+        Verdict::Fine => 0,
+        Verdict::Refuse(q) => step::refusal_number(q),
+    }
+}
+
+fn show(verdict: Verdict) {
+    io::print_decimal(STDOUT_FILENO, number(verdict) as u64);
+    io::write_all(STDOUT_FILENO, b"\n");
+}
+
+fn show_step(step: Step, words: &[u32], lent: usize) {
+    if lent <= words.len() {
+        let part = &words[..lent];
+        show(step::judge(step, part));
+    }
+}
+
+// The verdict on a step that is lent so many words.
+fn lend(lent: usize, step: Step) {
+    let words = [0u32; ROOM];
+    show_step(step, &words, lent);
+}
+
+fn command(n: u32, a: u32, f: u32, w: u32) {
+    lend(
+        0,
+        Step::Command {
+            n: n,
+            a: a,
+            f: f,
+            w: w,
+        },
+    );
+}
+
+fn front(n: u32, a: u32, v: u32) {
+    lend(0, Step::Front { n: n, a: a, v: v });
+}
+
+fn scan(lent: usize, n: u32, a: u32, f: u32, to: u32, limit: u32) {
+    lend(
+        lent,
+        Step::Scan {
+            n: n,
+            a: a,
+            f: f,
+            to: to,
+            limit: limit,
+        },
+    );
+}
+
+fn repeat(lent: usize, n: u32, a: u32, f: u32, limit: u32, tries: u32) {
+    lend(
+        lent,
+        Step::Repeat {
+            n: n,
+            a: a,
+            f: f,
+            limit: limit,
+            tries: tries,
+        },
+    );
+}
+
+fn stop(lent: usize, n: u32, a: u32, f: u32, limit: u32) {
+    lend(
+        lent,
+        Step::Stop {
+            n: n,
+            a: a,
+            f: f,
+            limit: limit,
+        },
+    );
+}
+
+fn module(previous: u32, n: u32, kind: u32, r: u32) {
+    show(step::judge_module(
+        previous,
+        Module {
+            n: n,
+            kind: kind,
+            r: r,
+        },
+    ));
+}
+
+fn commands() {
+    command(0, 0, 0, 0);
+    command(1, 0, 0, 0);
+    command(23, 15, 31, 16777215);
+    command(24, 0, 0, 0);
+    command(23, 16, 0, 0);
+    command(1, 15, 32, 0);
+    command(1, 0, 31, 16777216);
+    // one fault fewer on the left each time
+    command(24, 16, 32, 16777216);
+    command(1, 16, 32, 16777216);
+    command(1, 15, 32, 16777216);
+    command(99999999, 0, 0, 0);
+}
+
+fn fronts() {
+    front(0, 16, 16777216);
+    front(24, 15, 0);
+    front(23, 16, 16777216);
+    front(1, 15, 16777216);
+    front(1, 0, 16777215);
+}
+
+fn controls() {
+    lend(0, Step::Z);
+    lend(0, Step::C);
+    lend(0, Step::LookAtMe);
+    lend(0, Step::Inhibit { v: 0 });
+    lend(0, Step::Inhibit { v: 1 });
+    lend(0, Step::Inhibit { v: 2 });
+}
+
+fn scans() {
+    // limit against what is lent
+    scan(8, 3, 0, 0, 5, 8);
+    scan(7, 3, 0, 0, 5, 8);
+    scan(0, 3, 0, 0, 5, 8);
+    scan(0, 3, 0, 0, 5, 0);
+    scan(512, 1, 15, 3, 23, 512);
+    scan(511, 1, 15, 3, 23, 512);
+    scan(513, 1, 15, 3, 23, 513);
+    // `to` against N and the last station
+    scan(8, 5, 0, 2, 4, 8);
+    scan(8, 5, 0, 2, 5, 8);
+    scan(8, 5, 0, 2, 24, 8);
+    scan(1, 23, 0, 0, 23, 1);
+    // functions
+    scan(8, 5, 0, 1, 5, 8);
+    scan(8, 5, 0, 4, 5, 8);
+}
+
+fn scan_orders() {
+    // one fault fewer on the left each time
+    scan(0, 0, 16, 1, 24, 513);
+    scan(0, 24, 16, 1, 24, 513);
+    scan(0, 5, 16, 1, 4, 513);
+    scan(0, 5, 15, 1, 4, 513);
+    scan(0, 5, 15, 3, 4, 513);
+    scan(0, 5, 15, 3, 23, 513);
+    scan(0, 5, 15, 3, 23, 512);
+}
+
+fn repeats() {
+    repeat(1, 1, 0, 0, 1, 1);
+    repeat(512, 23, 15, 2, 512, 4096);
+    repeat(512, 23, 15, 2, 512, 4097);
+    repeat(513, 23, 15, 2, 513, 4096);
+    repeat(512, 23, 15, 2, 512, 0);
+    repeat(4, 1, 0, 3, 4, 513);
+    // tries before the buffer
+    repeat(0, 1, 0, 3, 1, 0);
+    repeat(0, 1, 0, 3, 1, 1);
+    repeat(4, 1, 0, 16, 0, 0);
+    repeat(4, 1, 16, 16, 0, 0);
+    repeat(4, 24, 16, 16, 0, 0);
+}
+
+fn stops() {
+    stop(4, 1, 0, 2, 4);
+    stop(3, 1, 0, 2, 4);
+    stop(513, 23, 15, 3, 512);
+    // one fault fewer on the left each time
+    stop(0, 0, 16, 31, 513);
+    stop(0, 1, 16, 31, 513);
+    stop(0, 1, 0, 31, 513);
+    stop(0, 1, 0, 2, 513);
+    stop(0, 1, 0, 2, 512);
+    stop(0, 1, 0, 2, 0);
+}
+
+fn module_orders() {
+    module(0, 1, 1, 1);
+    module(0, 0, 1, 1);
+    module(0, 24, 1, 1);
+    module(22, 23, 5, 16);
+    module(23, 23, 1, 1);
+    module(9, 8, 1, 1);
+    // one fault fewer each time: the station, the order, the module
+    module(9, 0, 0, 0);
+    module(9, 24, 0, 0);
+    module(9, 9, 0, 0);
+    module(9, 10, 0, 0);
+}
+
+fn modules() {
+    module(9, 10, 0, 1);
+    module(9, 10, 5, 1);
+    module(9, 10, 6, 1);
+    module(9, 10, 1, 0);
+    module(9, 10, 2, 16);
+    module(9, 10, 3, 17);
+    module(9, 10, 4, 0);
+    module(9, 10, 4, 1);
+    module(9, 10, 4, 2);
+    module(9, 10, 4, 16);
+}
+
+fn main() {
+    // the two that no field decides
+    show(Verdict::Refuse(Refusal::Garbled));
+    show(Verdict::Refuse(Refusal::UnfitCrate));
+    commands();
+    fronts();
+    controls();
+    scans();
+    scan_orders();
+    repeats();
+    stops();
+    module_orders();
+    modules();
+}

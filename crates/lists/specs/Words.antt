@@ -1,0 +1,45 @@
+-- A list of steps lent as words: six words a step and 512 words of buffer a step; four words of answer a step.
+use Prim.Native.Nat.{ℕ, zero, suc, _+_, _*_}
+use mathlib.Core.List.{List, [], _∷_, _++_}
+use lib.ListN.{getD, take, drop}
+use Rattle.station.specs.Cases.{Case, _does_, caseOf}
+use Rattle.step.specs.declared.Refusal.the-variants.{Garbled}
+use Rattle.step.specs.declared.Step.the-variants.{Command, Front, Z, C, Inhibit, LookAtMe, Scan, Repeat, Stop}
+use Rattle.step.specs.declared.Reading.{Reading}
+use Rattle.step.specs.declared.Reading.the-variants.{Good, Bad}
+use Rattle.controller.specs.Steps.{Order, order}
+
+-- which of the nine a step is, in the order of the run file's lines, with its fields in the line's order; words past them are not looked at
+unfoldable pub kindsOf : List ℕ → List (Case Reading)
+kindsOf w =
+    1 does Good (Command (getD w 1 0) (getD w 2 0) (getD w 3 0) (getD w 4 0))
+    ∷ 2 does Good (Front (getD w 1 0) (getD w 2 0) (getD w 3 0))
+    ∷ 3 does Good Z
+    ∷ 4 does Good C
+    ∷ 5 does Good (Inhibit (getD w 1 0))
+    ∷ 6 does Good LookAtMe
+    ∷ 7 does Good (Scan (getD w 1 0) (getD w 2 0) (getD w 3 0) (getD w 4 0) (getD w 5 0))
+    ∷ 8 does Good (Repeat (getD w 1 0) (getD w 2 0) (getD w 3 0) (getD w 4 0) (getD w 5 0))
+    ∷ 9 does Good (Stop (getD w 1 0) (getD w 2 0) (getD w 3 0) (getD w 4 0))
+    ∷ []
+
+-- the step of six words; any other number is garbled
+unfoldable pub readingOf : List ℕ → Reading
+readingOf w = caseOf (getD w 0 0) (kindsOf w) (Bad Garbled)
+
+-- part k of a list that is made of parts of w words
+abbrev pub part : (w : ℕ) → List ℕ → ℕ → List ℕ
+part w xs k = take w (drop (w * k) xs)
+
+-- the list xs with y for its part k; the rest stays
+abbrev pub withPart : (w : ℕ) → List ℕ → ℕ → List ℕ → List ℕ
+withPart w xs k y = take (w * k) xs ++ (y ++ drop (w * k + w) xs)
+
+-- step k of the list ws, with part q of the buffers bs as its own buffer
+abbrev pub orderAt : (ws : List ℕ) (k : ℕ) (bs : List ℕ) (q : ℕ) → Order
+orderAt ws k bs q = order (readingOf (part 6 ws k)) (part 512 bs q)
+
+-- the first k steps of a list, each with its own buffer
+unfoldable pub ordersOf : (ws bs : List ℕ) → ℕ → List Order
+ordersOf ws bs zero = []
+ordersOf ws bs (suc k) = ordersOf ws bs k ++ (orderAt ws k bs k ∷ [])

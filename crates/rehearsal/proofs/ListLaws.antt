@@ -1,0 +1,54 @@
+-- The open calls: a step and a list on a memory that is not fit, on one that is, and on lent words that are too few.
+-- Assumes nothing.
+use Prim.Native.Nat.{ℕ, _*_, _/_, _≤_, _<_}
+use mathlib.Core.Path.{_≡_, refl, _∙_}
+use mathlib.Core.Bool.{Bool, true, false, cond, _&&_}
+use mathlib.Core.List.{List}
+use native.Mathlib.Omega.{arith}
+use borrow.Author.Tests.{le-leb, lt-leb}
+use lib.Dec.{leb}
+use lib.ListN.{length}
+use Rattle.station.proofs.TestLaws.{both-false}
+use Rattle.dataway.specs.Crate.{isFitCrate}
+use Rattle.dataway.proofs.CrateLaws.{crate-facts}
+use Rattle.step.specs.declared.Refusal.the-variants.{ShortBuffer, UnfitCrate}
+use Rattle.controller.specs.Steps.{Order, Performed, refused, doneOf, stepOf}
+use Rattle.controller.proofs.StepLaws.{step-done}
+use Rattle.lists.specs.Runs.{Ran, ranOf, unrun, isEnough, listOf}
+
+-- ---- one step
+pub step-unfit : (m : List ℕ) (o : Order) → isFitCrate m ≡ false → stepOf m o ≡ refused UnfitCrate m (o .buffer)
+unfolding stepOf
+step-unfit m o t = rw t
+
+pub step-fits : (m : List ℕ) (o : Order) (p : Performed) → isFitCrate m ≡ true → doneOf m o ≡ p → stepOf m o ≡ p
+step-fits m o p t e = step-done m o (crate-facts m t) ∙ e
+
+-- ---- a list
+module _ (m : List ℕ) (count : ℕ) (ws ans bs : List ℕ) where
+  pub list-unfit : isFitCrate m ≡ false → listOf m count ws ans bs ≡ unrun UnfitCrate m ans bs
+  unfolding listOf
+  list-unfit t = rw t
+
+  short : isFitCrate m ≡ true → isEnough count ws ans bs ≡ false → listOf m count ws ans bs ≡ unrun ShortBuffer m ans bs
+  unfolding listOf
+  short t e = rw (t, e)
+
+  pub few-steps : isFitCrate m ≡ true → length ws / 6 < count → listOf m count ws ans bs ≡ unrun ShortBuffer m ans bs
+  unfolding isEnough
+  few-steps t h = short t (rw (lt-leb (6 * count) (length ws) (omega arith)))
+
+  pub few-answers : isFitCrate m ≡ true → length ans / 4 < count → listOf m count ws ans bs ≡ unrun ShortBuffer m ans bs
+  unfolding isEnough
+  few-answers t h = short t (rw (lt-leb (4 * count) (length ans) (omega arith)) (both-false (leb (6 * count) (length ws))))
+
+  pub few-buffers : isFitCrate m ≡ true → length bs / 512 < count → listOf m count ws ans bs ≡ unrun ShortBuffer m ans bs
+  unfolding isEnough
+  few-buffers t h =
+      short t (simp (lt-leb (512 * count) (length bs) (omega arith), both-false))
+
+  pub list-runs : isFitCrate m ≡ true → count ≤ length ws / 6 → count ≤ length ans / 4 → count ≤ length bs / 512
+      → (r : Ran) → ranOf m count ws ans bs ≡ r → listOf m count ws ans bs ≡ r
+  unfolding listOf isEnough
+  list-runs t h i j r e =
+      simp (t, le-leb (6 * count) (length ws) (omega arith), le-leb (4 * count) (length ans) (omega arith), le-leb (512 * count) (length bs) (omega arith)) e

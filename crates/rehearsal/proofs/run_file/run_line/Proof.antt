@@ -1,0 +1,53 @@
+-- `run_line` meets its contract: the test of the crate comes first, then the line's reading, then the step.
+use mathlib.Core.Path.{sym, ap, _∙_}
+use borrow.Author.Tests.{not-true, not-false}
+use borrow.Author.Needs.{needs}
+use Rattle.rehearsal.proofs.ListLaws.{step-unfit, step-fits}
+use Rattle.controller.specs.Steps.{order, doneOf}
+use Rattle.step.specs.declared.Reading.{Reading}
+use Rattle.dataway.proofs.CrateLaws.{crate-facts}
+use Rattle.rehearsal.proofs.run_file.run_line.Statement.{statement}
+use Rattle.rehearsal.proofs.run_file.run_line.Tie as tie
+
+is-fit-crate-requires : tie.Need-is-fit-crate-requires
+is-fit-crate-requires c κs = search needs
+
+same-length : tie.Need-same-length
+same-length c = search needs
+
+returns : tie.Need-returns
+returns c = step-unfit _ _ (sym (c .before .is-fit-crate .ensures) ∙ not-true _ (c .if1 .taken))
+
+read-line-requires : tie.Need-read-line-requires
+read-line-requires c κs = search needs
+
+perform-requires : tie.Need-perform-requires
+perform-requires c κs = crate-facts _
+    (sym (c .before .before .before .before .is-fit-crate .ensures) ∙ not-false _ (c .before .before .before .if1 .left))
+
+same-length-2 : tie.Need-same-length-2
+same-length-2 c = search needs
+
+same-length-3 : tie.Need-same-length-3
+same-length-3 c = search needs
+
+returns-2 : tie.Need-returns-2
+returns-2 c = step-fits _ _ _
+    (sym (c .before .before .before .before .before .before .before .before .before .is-fit-crate .ensures)
+    ∙ not-false _ (c .before .before .before .before .before .before .before .before .if1 .left))
+    (ap (λ (r : Reading). doneOf
+    (c .before .before .before .before .before .before .before .before .before .before .before .before .before .before .args .memory .now)
+    (order r (c .before .before .before .before .before .before .before .before .before .before .before .before .before .before .args .buffer .now))) (sym (c .before .before .before .before .before .before .before .read-line .ensures .0)) ∙ (c .before .before .before .before .perform .ensures .0))
+
+pub run-line-spec : {M : Type 1} → statement M
+run-line-spec =
+    tie.close
+    (tie.spec
+    is-fit-crate-requires
+    same-length
+    returns
+    read-line-requires
+    perform-requires
+    same-length-2
+    same-length-3
+    returns-2)

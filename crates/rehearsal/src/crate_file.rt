@@ -1,0 +1,40 @@
+// One line of a crate file on a lent crate.
+ghost use mathlib.Core.Path.{_≡_};
+ghost use Rattle.dataway.specs.Crate.{FitCrate};
+ghost use Rattle.runfile.specs.Read.{readModule};
+ghost use Rattle.step.specs.declared.ModuleLine.{ModuleLine};
+ghost use Rattle.rehearsal.specs.Modules.{Installed, moduleOf, installOf};
+use dataway::fitness::is_fit_crate;
+use step::Module;
+use step::ModuleLine;
+use step::Refusal;
+use step::Verdict;
+
+// Puts a module into a fit crate, if it may stand there.
+fn place(memory: &mut [u32], previous: u32, held: Module) -> Verdict
+    requires { ⌜ FitCrate (now memory) ⌝ }
+    ensures { λ r. ⌜ moduleOf (now (memory .entry)) previous (ModuleLine.Holds held) ≡ record { verdict = r; memory = now (memory .exit) } ⌝ }
+{
+    let verdict = step::judge_module(previous, held);
+    match verdict {
+        Verdict::Refuse(q) => Verdict::Refuse(q),
+        Verdict::Fine => {
+            dataway::put_module(memory, held.n, held.kind, held.r);
+            Verdict::Fine
+        }
+    }
+}
+
+// One line of a crate file, after a line for the station `previous` (0 before the first): 9, then 1, 2, 11, 10, else the module is put in.
+pub fn crate_line(memory: &mut [u32], previous: u32, line: &[u8]) -> Verdict
+    ensures { λ r. ⌜ installOf (now (memory .entry)) previous (readModule (now (line .entry))) ≡ record { verdict = r; memory = now (memory .exit) } ⌝ }
+{
+    if !is_fit_crate(memory) {
+        return Verdict::Refuse(Refusal::UnfitCrate);
+    }
+    let read = runfile::read_module(line);
+    match read {
+        ModuleLine::Holds(held) => place(memory, previous, held),
+        ModuleLine::Bad(q) => Verdict::Refuse(q),
+    }
+}

@@ -1,0 +1,126 @@
+-- What a fine verdict says of a step's fields: each test of the list was passed, so each field is within its bounds.
+use mathlib.Core.Path.{_≡_, refl}
+use mathlib.Core.Bool.{Bool, true, false, false≢true, _||_, and-eq-true-iff}
+use Prim.Native.Nat.{ℕ, _≤_}
+use native.Mathlib.Omega.{arith}
+use borrow.Author.Tests.{leb-true, eqb-true}
+use lib.Dec.{leb, eqb}
+use Rattle.step.specs.declared.Refusal.{Refusal}
+use Rattle.step.specs.declared.Refusal.the-variants.{NoSuchStation, NoSuchSubaddress, NoSuchFunction, OverwideWord, CrossedRange, BadLength, ShortBuffer}
+use Rattle.step.specs.declared.Verdict.{Verdict}
+use Rattle.step.specs.declared.Verdict.the-variants.{Fine}
+use Rattle.step.specs.Verdict.{within, unless, isFine, transfer, stationThen, subaddressThen, transferThen, commandVerdict, frontVerdict, inhibitVerdict, scanVerdict, repeatVerdict, stopVerdict}
+
+-- the test was passed, and what follows it is fine
+pub unless-fine : (t : Bool) (q : Refusal) (v : Verdict) → isFine (unless t q v) ≡ true → (t ≡ true) × (isFine v ≡ true)
+unless-fine true q v e = (refl, e)
+unless-fine false q v e = absurd (false≢true e)
+
+-- the test `within` as two bounds
+pub within-bounds : (low x high : ℕ) → within low x high ≡ true → (low ≤ x) × (x ≤ high)
+within-bounds low x high e =
+    let p = and-eq-true-iff (leb low x) (leb x high) .0 e in
+    (leb-true low x (p .0), leb-true x high (p .1))
+
+-- the functions of a transfer are among the 32
+pub transfer-bound : (f : ℕ) → transfer f ≡ true → f ≤ 3
+transfer-bound f e = go (eqb f 0) (eqb f 2) (eqb f 3) (eqb-true f 0) (eqb-true f 2) (eqb-true f 3) e
+  where
+    go : (s t u : Bool) → (s ≡ true → f ≡ 0) → (t ≡ true → f ≡ 2) → (u ≡ true → f ≡ 3) → (s || t || u) ≡ true → f ≤ 3
+    go true t u p q r e = omega (arith, p refl)
+    go false true u p q r e = omega (arith, q refl)
+    go false false true p q r e = omega (arith, r refl)
+    go false false false p q r e = absurd (false≢true e)
+
+-- a row with an upper bound
+most-fine : (x high : ℕ) (q : Refusal) (v : Verdict) → isFine (unless (leb x high) q v) ≡ true → (x ≤ high) × (isFine v ≡ true)
+most-fine x high q v e = let p = unless-fine (leb x high) q v e in (leb-true x high (p .0), p .1)
+
+-- a row with two bounds
+within-fine : (low x high : ℕ) (q : Refusal) (v : Verdict) → isFine (unless (within low x high) q v) ≡ true
+    → (low ≤ x) × (x ≤ high) × (isFine v ≡ true)
+within-fine low x high q v e =
+    let p = unless-fine (within low x high) q v e in
+    let b = within-bounds low x high (p .0) in
+    (b .0, b .1, p .1)
+
+-- N and A, with which five kinds of step begin
+address-fine : (n a : ℕ) (v : Verdict) → isFine (stationThen n (subaddressThen a v)) ≡ true → (1 ≤ n) × (n ≤ 23) × (a ≤ 15) × (isFine v ≡ true)
+address-fine n a v e =
+    let p = within-fine 1 n 23 NoSuchStation (subaddressThen a v) e in
+    let q = most-fine a 15 NoSuchSubaddress v (p .2) in
+    (p .0, p .1, q .0, q .1)
+
+-- N, A and F of a transfer
+transfer-fine : (n a f : ℕ) (v : Verdict) → isFine (stationThen n (subaddressThen a (transferThen f v))) ≡ true
+    → (1 ≤ n) × (n ≤ 23) × (a ≤ 15) × (transfer f ≡ true) × (isFine v ≡ true)
+transfer-fine n a f v e =
+    let p = address-fine n a (transferThen f v) e in
+    let q = unless-fine (transfer f) NoSuchFunction v (p .3) in
+    (p .0, p .1, p .2, q .0, q .1)
+
+-- the fields of a command
+pub command-fine : (n a f w : ℕ) → isFine (commandVerdict n a f w) ≡ true → (1 ≤ n) × (n ≤ 23) × (a ≤ 15) × (f ≤ 31) × (w ≤ 16777215)
+unfolding commandVerdict
+command-fine n a f w e =
+    let p = address-fine n a _ e in
+    let q = most-fine f 31 NoSuchFunction _ (p .3) in
+    let r = most-fine w 16777215 OverwideWord Fine (q .1) in
+    (p .0, p .1, p .2, q .0, r .0)
+
+-- the fields of a front event
+pub front-fine : (n a v : ℕ) → isFine (frontVerdict n a v) ≡ true → (1 ≤ n) × (n ≤ 23) × (a ≤ 15) × (v ≤ 16777215)
+unfolding frontVerdict
+front-fine n a v e =
+    let p = address-fine n a _ e in
+    let q = most-fine v 16777215 OverwideWord Fine (p .3) in
+    (p .0, p .1, p .2, q .0)
+
+-- the field of I
+pub inhibit-fine : (v : ℕ) → isFine (inhibitVerdict v) ≡ true → v ≤ 1
+unfolding inhibitVerdict
+inhibit-fine v e = most-fine v 1 OverwideWord Fine e .0
+
+-- the fields of a scan, and its buffer
+pub scan-fields : (n a f to limit lent : ℕ) → isFine (scanVerdict n a f to limit lent) ≡ true
+    → (1 ≤ n) × (n ≤ 23) × (a ≤ 15) × (transfer f ≡ true) × (n ≤ to) × (to ≤ 23) × (1 ≤ limit) × (limit ≤ 512) × (limit ≤ lent)
+unfolding scanVerdict
+scan-fields n a f to limit lent e =
+    let p = transfer-fine n a f _ e in
+    let q = within-fine n to 23 CrossedRange _ (p .4) in
+    let r = within-fine 1 limit 512 BadLength _ (q .2) in
+    let s = most-fine limit lent ShortBuffer Fine (r .2) in
+    (p .0, p .1, p .2, p .3, q .0, q .1, r .0, r .1, s .0)
+
+-- of these, what keeps its walk inside the crate
+pub scan-fine : (n a f to limit lent : ℕ) → isFine (scanVerdict n a f to limit lent) ≡ true → (1 ≤ n) × (a ≤ 15) × (to ≤ 23)
+scan-fine n a f to limit lent e = let p = scan-fields n a f to limit lent e in (p .0, p .2, p .5)
+
+-- the fields of a Repeat, and its buffer
+pub repeat-fields : (n a f limit tries lent : ℕ) → isFine (repeatVerdict n a f limit tries lent) ≡ true
+    → (1 ≤ n) × (n ≤ 23) × (a ≤ 15) × (transfer f ≡ true) × (1 ≤ limit) × (limit ≤ 512) × (1 ≤ tries) × (tries ≤ 4096) × (limit ≤ lent)
+unfolding repeatVerdict
+repeat-fields n a f limit tries lent e =
+    let p = transfer-fine n a f _ e in
+    let q = within-fine 1 limit 512 BadLength _ (p .4) in
+    let r = within-fine 1 tries 4096 BadLength _ (q .2) in
+    let s = most-fine limit lent ShortBuffer Fine (r .2) in
+    (p .0, p .1, p .2, p .3, q .0, q .1, r .0, r .1, s .0)
+
+-- of these, where its commands go
+pub repeat-fine : (n a f limit tries lent : ℕ) → isFine (repeatVerdict n a f limit tries lent) ≡ true → (1 ≤ n) × (n ≤ 23) × (a ≤ 15)
+repeat-fine n a f limit tries lent e = let p = repeat-fields n a f limit tries lent e in (p .0, p .1, p .2)
+
+-- the fields of a Stop, and its buffer
+pub stop-fields : (n a f limit lent : ℕ) → isFine (stopVerdict n a f limit lent) ≡ true
+    → (1 ≤ n) × (n ≤ 23) × (a ≤ 15) × (transfer f ≡ true) × (1 ≤ limit) × (limit ≤ 512) × (limit ≤ lent)
+unfolding stopVerdict
+stop-fields n a f limit lent e =
+    let p = transfer-fine n a f _ e in
+    let q = within-fine 1 limit 512 BadLength _ (p .4) in
+    let r = most-fine limit lent ShortBuffer Fine (q .2) in
+    (p .0, p .1, p .2, p .3, q .0, q .1, r .0)
+
+-- of these, where its commands go
+pub stop-fine : (n a f limit lent : ℕ) → isFine (stopVerdict n a f limit lent) ≡ true → (1 ≤ n) × (n ≤ 23) × (a ≤ 15)
+stop-fine n a f limit lent e = let p = stop-fields n a f limit lent e in (p .0, p .1, p .2)

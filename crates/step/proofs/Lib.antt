@@ -1,0 +1,5 @@
+pub mod Fine
+pub mod Lengths
+pub mod Modules
+pub mod Numbers
+pub mod Touches

@@ -1,0 +1,4 @@
+pub mod Modules
+pub mod Refusals
+pub mod Touches
+pub mod Verdict

@@ -1,0 +1,18 @@
+-- What is sent back: the number of each row of the table of refusals.
+use Prim.Native.Nat.{ℕ}
+use Rattle.step.specs.declared.Refusal.{Refusal}
+use Rattle.step.specs.declared.Refusal.the-variants.{Garbled, NoSuchStation, NoSuchSubaddress, NoSuchFunction, OverwideWord, CrossedRange, BadLength, ShortBuffer, UnfitCrate, BadModule, OutOfOrder}
+
+-- the paper's number of a refusal
+abbrev pub refusalNumber : Refusal → ℕ
+refusalNumber Garbled = 1
+refusalNumber NoSuchStation = 2
+refusalNumber NoSuchSubaddress = 3
+refusalNumber NoSuchFunction = 4
+refusalNumber OverwideWord = 5
+refusalNumber CrossedRange = 6
+refusalNumber BadLength = 7
+refusalNumber ShortBuffer = 8
+refusalNumber UnfitCrate = 9
+refusalNumber BadModule = 10
+refusalNumber OutOfOrder = 11

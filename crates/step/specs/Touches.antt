@@ -1,0 +1,35 @@
+-- Steps that touch stations: which stations a step reaches by its fields, and which it touches, a refused step none.
+use Prim.Native.Nat.{ℕ}
+use mathlib.Core.Bool.{Bool, true, false, _&&_}
+use mathlib.Core.List.{List}
+use lib.Dec.{eqb}
+use Rattle.step.specs.declared.Step.{Step}
+use Rattle.step.specs.declared.Step.the-variants.{Command, Front, Z, C, Inhibit, LookAtMe, Scan, Repeat, Stop}
+use Rattle.step.specs.declared.Reading.{Reading}
+use Rattle.step.specs.declared.Reading.the-variants.{Good, Bad}
+use Rattle.step.specs.Verdict.{within, isFine, stepVerdict, verdictOf}
+
+-- the stations k of a step that is not refused: N; in a scan N to `to`; in Z, C, I and the Look-at-Me reading all
+abbrev pub reach : Step → ℕ → Bool
+reach (Command n a f w) k = eqb n k
+reach (Front n a v) k = eqb n k
+reach Z k = true
+reach C k = true
+reach (Inhibit v) k = true
+reach LookAtMe k = true
+reach (Scan n a f to limit) k = within n k to
+reach (Repeat n a f limit tries) k = eqb n k
+reach (Stop n a f limit) k = eqb n k
+
+-- the same of a reading: one that is no step reaches none
+abbrev pub reachOf : Reading → ℕ → Bool
+reachOf (Good s) k = reach s k
+reachOf (Bad q) k = false
+
+-- a step that is lent this buffer touches the station k: a refused step touches none
+abbrev pub touches : Step → List ℕ → ℕ → Bool
+touches s buffer k = isFine (stepVerdict s buffer) && reach s k
+
+-- the same of a reading: one that is no step touches none
+abbrev pub touchesOf : Reading → List ℕ → ℕ → Bool
+touchesOf r buffer k = isFine (verdictOf r buffer) && reachOf r k

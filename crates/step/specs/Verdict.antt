@@ -1,0 +1,117 @@
+-- When a step is refused: each row of the table of refusals is said once, as a test with what follows it.
+-- The verdict on a step is then the list of its fields from left to right, the buffer last.
+use Prim.Native.Nat.{ℕ}
+use mathlib.Core.Bool.{Bool, true, false, _&&_, _||_}
+use mathlib.Core.List.{List}
+use lib.ListN.{length}
+use lib.Dec.{leb, eqb}
+use Rattle.step.specs.declared.Refusal.{Refusal}
+use Rattle.step.specs.declared.Refusal.the-variants.{NoSuchStation, NoSuchSubaddress, NoSuchFunction, OverwideWord, CrossedRange, BadLength, ShortBuffer}
+use Rattle.step.specs.declared.Step.{Step}
+use Rattle.step.specs.declared.Step.the-variants.{Command, Front, Z, C, Inhibit, LookAtMe, Scan, Repeat, Stop}
+use Rattle.step.specs.declared.Reading.{Reading}
+use Rattle.step.specs.declared.Reading.the-variants.{Good, Bad}
+use Rattle.step.specs.declared.Verdict.{Verdict}
+use Rattle.step.specs.declared.Verdict.the-variants.{Fine, Refuse}
+
+-- x is low to high, both included
+abbrev pub within : ℕ → ℕ → ℕ → Bool
+within low x high = leb low x && leb x high
+
+-- what follows, unless the test fails
+abbrev pub unless : Bool → Refusal → Verdict → Verdict
+unless true q next = next
+unless false q next = Refuse q
+
+-- no refusal
+abbrev pub isFine : Verdict → Bool
+isFine Fine = true
+isFine (Refuse q) = false
+
+-- 2, no such station: N outside 1 to 23
+abbrev pub stationThen : ℕ → Verdict → Verdict
+stationThen n next = unless (within 1 n 23) NoSuchStation next
+
+-- 3, no such subaddress: A above 15
+abbrev pub subaddressThen : ℕ → Verdict → Verdict
+subaddressThen a next = unless (leb a 15) NoSuchSubaddress next
+
+-- 4, no such function: F above 31
+abbrev pub functionThen : ℕ → Verdict → Verdict
+functionThen f next = unless (leb f 31) NoSuchFunction next
+
+-- the functions of a block transfer: F is 0, 2 or 3
+abbrev pub transfer : ℕ → Bool
+transfer f = eqb f 0 || eqb f 2 || eqb f 3
+
+-- 4, no such function: in a transfer, not 0, 2, 3
+abbrev pub transferThen : ℕ → Verdict → Verdict
+transferThen f next = unless (transfer f) NoSuchFunction next
+
+-- 5, overwide word: w or v above 16,777,215
+abbrev pub wordThen : ℕ → Verdict → Verdict
+wordThen w next = unless (leb w 16777215) OverwideWord next
+
+-- 5, overwide word: for I, v above 1
+abbrev pub inhibitThen : ℕ → Verdict → Verdict
+inhibitThen v next = unless (leb v 1) OverwideWord next
+
+-- 6, crossed range: `to` below N or above 23
+abbrev pub rangeThen : ℕ → ℕ → Verdict → Verdict
+rangeThen n to next = unless (within n to 23) CrossedRange next
+
+-- 7, bad length: limit outside 1 to 512
+abbrev pub limitThen : ℕ → Verdict → Verdict
+limitThen limit next = unless (within 1 limit 512) BadLength next
+
+-- 7, bad length: tries outside 1 to 4096
+abbrev pub triesThen : ℕ → Verdict → Verdict
+triesThen tries next = unless (within 1 tries 4096) BadLength next
+
+-- 8, short buffer: fewer than limit words lent
+abbrev pub lentThen : ℕ → ℕ → Verdict → Verdict
+lentThen limit lent next = unless (leb limit lent) ShortBuffer next
+
+-- op=naf n= a= f= w=
+unfoldable pub commandVerdict : ℕ → ℕ → ℕ → ℕ → Verdict
+commandVerdict n a f w = stationThen n (subaddressThen a (functionThen f (wordThen w Fine)))
+
+-- op=front n= a= v=
+unfoldable pub frontVerdict : ℕ → ℕ → ℕ → Verdict
+frontVerdict n a v = stationThen n (subaddressThen a (wordThen v Fine))
+
+-- op=i v=
+unfoldable pub inhibitVerdict : ℕ → Verdict
+inhibitVerdict v = inhibitThen v Fine
+
+-- op=scan n= a= f= to= limit=, with so many words lent
+unfoldable pub scanVerdict : ℕ → ℕ → ℕ → ℕ → ℕ → ℕ → Verdict
+scanVerdict n a f to limit lent =
+    stationThen n (subaddressThen a (transferThen f (rangeThen n to (limitThen limit (lentThen limit lent Fine)))))
+
+-- op=repeat n= a= f= limit= tries=, with so many words lent
+unfoldable pub repeatVerdict : ℕ → ℕ → ℕ → ℕ → ℕ → ℕ → Verdict
+repeatVerdict n a f limit tries lent =
+    stationThen n (subaddressThen a (transferThen f (limitThen limit (triesThen tries (lentThen limit lent Fine)))))
+
+-- op=stop n= a= f= limit=, with so many words lent
+unfoldable pub stopVerdict : ℕ → ℕ → ℕ → ℕ → ℕ → Verdict
+stopVerdict n a f limit lent =
+    stationThen n (subaddressThen a (transferThen f (limitThen limit (lentThen limit lent Fine))))
+
+-- the verdict on a step that is lent this buffer; nothing is wrong with Z, C and the Look-at-Me reading
+abbrev pub stepVerdict : Step → List ℕ → Verdict
+stepVerdict (Command n a f w) buffer = commandVerdict n a f w
+stepVerdict (Front n a v) buffer = frontVerdict n a v
+stepVerdict Z buffer = Fine
+stepVerdict C buffer = Fine
+stepVerdict (Inhibit v) buffer = inhibitVerdict v
+stepVerdict LookAtMe buffer = Fine
+stepVerdict (Scan n a f to limit) buffer = scanVerdict n a f to limit (length buffer)
+stepVerdict (Repeat n a f limit tries) buffer = repeatVerdict n a f limit tries (length buffer)
+stepVerdict (Stop n a f limit) buffer = stopVerdict n a f limit (length buffer)
+
+-- the verdict on a reading: one that is no step has its own refusal
+abbrev pub verdictOf : Reading → List ℕ → Verdict
+verdictOf (Good s) buffer = stepVerdict s buffer
+verdictOf (Bad q) buffer = Refuse q

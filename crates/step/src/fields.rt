@@ -1,0 +1,143 @@
+// The rows of the table of refusals. Each function gives the refusal of its row where its field is bad, and else `rest`,
+// the verdict on what stands to the right of the field.
+use crate::Refusal;
+use crate::Verdict;
+ghost use mathlib.Core.Path.{_≡_};
+ghost use Rattle.step.specs.Modules.{mostRegisters, fitsKind, orderThen, moduleThen};
+ghost use Rattle.step.specs.Verdict.{within, transfer, unless, stationThen, subaddressThen, functionThen, transferThen, wordThen, inhibitThen, rangeThen, limitThen, triesThen, lentThen};
+
+// The edges of the fields.
+const LAST_STATION: u32 = 23;
+
+const LAST_SUBADDRESS: u32 = 15;
+
+const LAST_FUNCTION: u32 = 31;
+
+const WIDEST_WORD: u32 = 16777215;
+
+const MOST_WORDS: u32 = 512;
+
+const MOST_TRIES: u32 = 4096;
+
+const LAST_KIND: u32 = 5;
+
+const BUFFER_MEMORY: u32 = 4;
+
+const MOST_REGISTERS: u32 = 16;
+
+// x is low to high, both included.
+fn within(low: u32, x: u32, high: u32) -> bool
+    ensures { λ r. ⌜ r ≡ within low x high ⌝ }
+{
+    low <= x && x <= high
+}
+
+// The functions of a block transfer.
+fn is_transfer(f: u32) -> bool
+    ensures { λ r. ⌜ r ≡ transfer f ⌝ }
+{
+    if f == 0 {
+        return true;
+    }
+    if f == 2 {
+        return true;
+    }
+    f == 3
+}
+
+// The most registers of a kind.
+fn most_registers(kind: u32) -> u32
+    ensures { λ r. ⌜ r ≡ mostRegisters kind ⌝ }
+{
+    if kind == BUFFER_MEMORY {
+        1
+    } else {
+        MOST_REGISTERS
+    }
+}
+
+// A kind of the table of kinds, and r registers as that kind may have.
+fn fits_kind(kind: u32, r: u32) -> bool
+    ensures { λ b. ⌜ b ≡ fitsKind kind r ⌝ }
+{
+    within(1, kind, LAST_KIND) && within(1, r, most_registers(kind))
+}
+
+// What follows, unless the test failed.
+fn unless(ok: bool, q: Refusal, rest: Verdict) -> Verdict
+    ensures { λ r. ⌜ r ≡ unless ok q rest ⌝ }
+{
+    if ok { rest } else { Verdict::Refuse(q) }
+}
+
+pub fn station_then(n: u32, rest: Verdict) -> Verdict
+    ensures { λ r. ⌜ r ≡ stationThen n rest ⌝ }
+{
+    unless(within(1, n, LAST_STATION), Refusal::NoSuchStation, rest)
+}
+
+pub fn subaddress_then(a: u32, rest: Verdict) -> Verdict
+    ensures { λ r. ⌜ r ≡ subaddressThen a rest ⌝ }
+{
+    unless(a <= LAST_SUBADDRESS, Refusal::NoSuchSubaddress, rest)
+}
+
+pub fn function_then(f: u32, rest: Verdict) -> Verdict
+    ensures { λ r. ⌜ r ≡ functionThen f rest ⌝ }
+{
+    unless(f <= LAST_FUNCTION, Refusal::NoSuchFunction, rest)
+}
+
+pub fn transfer_then(f: u32, rest: Verdict) -> Verdict
+    ensures { λ r. ⌜ r ≡ transferThen f rest ⌝ }
+{
+    unless(is_transfer(f), Refusal::NoSuchFunction, rest)
+}
+
+pub fn word_then(w: u32, rest: Verdict) -> Verdict
+    ensures { λ r. ⌜ r ≡ wordThen w rest ⌝ }
+{
+    unless(w <= WIDEST_WORD, Refusal::OverwideWord, rest)
+}
+
+pub fn inhibit_then(v: u32, rest: Verdict) -> Verdict
+    ensures { λ r. ⌜ r ≡ inhibitThen v rest ⌝ }
+{
+    unless(v <= 1, Refusal::OverwideWord, rest)
+}
+
+pub fn range_then(n: u32, to: u32, rest: Verdict) -> Verdict
+    ensures { λ r. ⌜ r ≡ rangeThen n to rest ⌝ }
+{
+    unless(within(n, to, LAST_STATION), Refusal::CrossedRange, rest)
+}
+
+pub fn limit_then(limit: u32, rest: Verdict) -> Verdict
+    ensures { λ r. ⌜ r ≡ limitThen limit rest ⌝ }
+{
+    unless(within(1, limit, MOST_WORDS), Refusal::BadLength, rest)
+}
+
+pub fn tries_then(tries: u32, rest: Verdict) -> Verdict
+    ensures { λ r. ⌜ r ≡ triesThen tries rest ⌝ }
+{
+    unless(within(1, tries, MOST_TRIES), Refusal::BadLength, rest)
+}
+
+pub fn lent_then(limit: u32, lent: usize, rest: Verdict) -> Verdict
+    ensures { λ r. ⌜ r ≡ lentThen limit lent rest ⌝ }
+{
+    unless(limit as usize <= lent, Refusal::ShortBuffer, rest)
+}
+
+pub fn order_then(previous: u32, n: u32, rest: Verdict) -> Verdict
+    ensures { λ r. ⌜ r ≡ orderThen previous n rest ⌝ }
+{
+    unless(previous < n, Refusal::OutOfOrder, rest)
+}
+
+pub fn module_then(kind: u32, r: u32, rest: Verdict) -> Verdict
+    ensures { λ v. ⌜ v ≡ moduleThen kind r rest ⌝ }
+{
+    unless(fits_kind(kind, r), Refusal::BadModule, rest)
+}

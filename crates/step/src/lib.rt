@@ -1,0 +1,196 @@
+// A step of a run, the module of a crate line, and whether they may be done: fields from left to right, then the buffer.
+// The types come first, then the judging; each row of the table of refusals is a function of `fields`.
+mod fields;
+
+use fields::function_then;
+use fields::inhibit_then;
+use fields::lent_then;
+use fields::limit_then;
+use fields::module_then;
+use fields::order_then;
+use fields::range_then;
+use fields::station_then;
+use fields::subaddress_then;
+use fields::transfer_then;
+use fields::tries_then;
+use fields::word_then;
+ghost use mathlib.Core.Path.{_≡_};
+ghost use Rattle.step.specs.Modules.{moduleVerdict};
+ghost use Rattle.step.specs.Refusals.{refusalNumber};
+ghost use Rattle.step.specs.Verdict.{commandVerdict, frontVerdict, inhibitVerdict, scanVerdict, repeatVerdict, stopVerdict, stepVerdict};
+
+// What is sent back, in the order of the numbers 1 to 11.
+pub enum Refusal {
+    Garbled,
+    NoSuchStation,
+    NoSuchSubaddress,
+    NoSuchFunction,
+    OverwideWord,
+    CrossedRange,
+    BadLength,
+    ShortBuffer,
+    UnfitCrate,
+    BadModule,
+    OutOfOrder,
+}
+
+// The nine kinds of step, each with the fields of its line in a run file.
+pub enum Step {
+    Command {
+        n: u32,
+        a: u32,
+        f: u32,
+        w: u32,
+    },
+    Front {
+        n: u32,
+        a: u32,
+        v: u32,
+    },
+    Z,
+    C,
+    Inhibit {
+        v: u32,
+    },
+    LookAtMe,
+    Scan {
+        n: u32,
+        a: u32,
+        f: u32,
+        to: u32,
+        limit: u32,
+    },
+    Repeat {
+        n: u32,
+        a: u32,
+        f: u32,
+        limit: u32,
+        tries: u32,
+    },
+    Stop {
+        n: u32,
+        a: u32,
+        f: u32,
+        limit: u32,
+    },
+}
+
+// The reading of a run line, or of a step lent as words.
+pub enum Reading {
+    Good(Step),
+    Bad(Refusal),
+}
+
+// The module of a crate line: its station, its kind and its register count.
+pub struct Module {
+    pub n: u32,
+    pub kind: u32,
+    pub r: u32,
+}
+
+// The reading of a crate line.
+pub enum ModuleLine {
+    Holds(Module),
+    Bad(Refusal),
+}
+
+// Whether a step or a module may be had, and what is sent back where it may not.
+pub enum Verdict {
+    Fine,
+    Refuse(Refusal),
+}
+
+// The number that stands for a refusal.
+pub fn refusal_number(q: Refusal) -> u32
+    ensures { λ r. ⌜ r ≡ refusalNumber q ⌝ }
+{
+    match q {
+        Refusal::Garbled => 1,
+        Refusal::NoSuchStation => 2,
+        Refusal::NoSuchSubaddress => 3,
+        Refusal::NoSuchFunction => 4,
+        Refusal::OverwideWord => 5,
+        Refusal::CrossedRange => 6,
+        Refusal::BadLength => 7,
+        Refusal::ShortBuffer => 8,
+        Refusal::UnfitCrate => 9,
+        Refusal::BadModule => 10,
+        Refusal::OutOfOrder => 11,
+    }
+}
+
+// The verdict on a step that is lent a buffer. Of the buffer only its length counts, and only in a transfer.
+pub fn judge(step: Step, buffer: &[u32]) -> Verdict
+    ensures { λ r. ⌜ r ≡ stepVerdict step (now (buffer .entry)) ⌝ }
+{
+    match step {
+        Step::Command { n, a, f, w } => judge_command(n, a, f, w),
+        Step::Front { n, a, v } => judge_front(n, a, v),
+        Step::Z => Verdict::Fine,
+        Step::C => Verdict::Fine,
+        Step::Inhibit { v } => judge_inhibit(v),
+        Step::LookAtMe => Verdict::Fine,
+        Step::Scan { n, a, f, to, limit } => judge_scan(n, a, f, to, limit, buffer.len()),
+        Step::Repeat {
+            n,
+            a,
+            f,
+            limit,
+            tries,
+        } => judge_repeat(n, a, f, limit, tries, buffer.len()),
+        Step::Stop { n, a, f, limit } => judge_stop(n, a, f, limit, buffer.len()),
+    }
+}
+
+// The verdict on a crate line after a line for the station `previous`, which is 0 before the first.
+pub fn judge_module(previous: u32, line: Module) -> Verdict
+    ensures { λ r. ⌜ r ≡ moduleVerdict previous line ⌝ }
+{
+    let n = line.n;
+    let rest = order_then(previous, n, module_then(line.kind, line.r, Verdict::Fine));
+    station_then(n, rest)
+}
+
+// The kinds of step, field by field. What stands to the right of a field is handed to it, so the leftmost fault counts.
+
+fn judge_command(n: u32, a: u32, f: u32, w: u32) -> Verdict
+    ensures { λ r. ⌜ r ≡ commandVerdict n a f w ⌝ }
+{
+    let rest = function_then(f, word_then(w, Verdict::Fine));
+    station_then(n, subaddress_then(a, rest))
+}
+
+fn judge_front(n: u32, a: u32, v: u32) -> Verdict
+    ensures { λ r. ⌜ r ≡ frontVerdict n a v ⌝ }
+{
+    station_then(n, subaddress_then(a, word_then(v, Verdict::Fine)))
+}
+
+fn judge_inhibit(v: u32) -> Verdict
+    ensures { λ r. ⌜ r ≡ inhibitVerdict v ⌝ }
+{
+    inhibit_then(v, Verdict::Fine)
+}
+
+fn judge_scan(n: u32, a: u32, f: u32, to: u32, limit: u32, lent: usize) -> Verdict
+    ensures { λ r. ⌜ r ≡ scanVerdict n a f to limit lent ⌝ }
+{
+    let lengths = limit_then(limit, lent_then(limit, lent, Verdict::Fine));
+    let rest = transfer_then(f, range_then(n, to, lengths));
+    station_then(n, subaddress_then(a, rest))
+}
+
+fn judge_repeat(n: u32, a: u32, f: u32, limit: u32, tries: u32, lent: usize) -> Verdict
+    ensures { λ r. ⌜ r ≡ repeatVerdict n a f limit tries lent ⌝ }
+{
+    let buffer = lent_then(limit, lent, Verdict::Fine);
+    let rest = limit_then(limit, tries_then(tries, buffer));
+    station_then(n, subaddress_then(a, transfer_then(f, rest)))
+}
+
+fn judge_stop(n: u32, a: u32, f: u32, limit: u32, lent: usize) -> Verdict
+    ensures { λ r. ⌜ r ≡ stopVerdict n a f limit lent ⌝ }
+{
+    let rest = limit_then(limit, lent_then(limit, lent, Verdict::Fine));
+    station_then(n, subaddress_then(a, transfer_then(f, rest)))
+}

@@ -1,0 +1,74 @@
+-- Laws of `pasted` and `Put`: a store is the paste of one byte, and two pastes in a row are one.
+use Prim.Native.Nat.{ℕ, suc, _+_, _≤_, _<_}
+use mathlib.Core.Path.{_≡_, sym, _∙_, ap}
+use mathlib.Core.List.{List, [], _∷_, _++_, append-nil, append-assoc}
+use native.Mathlib.Nat.{add-zero}
+use native.Mathlib.Numerals.{add-one}
+use native.Mathlib.Omega.{arith}
+use lib.ListN.{length, take, drop, set, length-append, length-drop, take-append-drop}
+use lib.Seq.{append-snoc, length-take-le, set-split, take-at, drop-at, drop-drop, take-set-le}
+use Rattle.text.specs.Paste.{pasted, Put}
+
+pub paste-nothing : (o : List ℕ) (at : ℕ) → pasted o at [] ≡ o
+unfolding pasted
+paste-nothing o at = rw (add-zero at, append-nil (take at o), take-append-drop at o)
+
+pub length-pasted : (o : List ℕ) (at : ℕ) (text : List ℕ) → at + length text ≤ length o → length (pasted o at text) ≡ length o
+unfolding pasted
+length-pasted o at text h = simp (length-append, length-take-le at o (omega arith), length-drop) (omega arith)
+
+-- a store is the paste of one byte
+pub paste-one : (o : List ℕ) (i x : ℕ) → i < length o → pasted o i (x ∷ []) ≡ set o i x
+unfolding pasted
+paste-one o i x h = rw (add-one i, append-snoc (take i o) x (drop (suc i) o)) (sym (set-split o i x h))
+
+-- a buffer up to the end of text that was pasted, and from there on
+module _ (o : List ℕ) (at : ℕ) (a : List ℕ) (h : at ≤ length o) where
+  front : length (take at o ++ a) ≡ at + length a
+  front = length-append (take at o) a ∙ ap (λ (k : ℕ). k + length a) (length-take-le at o h)
+
+  pub take-pasted : take (at + length a) (pasted o at a) ≡ take at o ++ a
+  unfolding pasted
+  take-pasted = take-at (take at o ++ a) (drop (at + length a) o) (at + length a) front
+
+  pub drop-pasted : (n : ℕ) → drop (at + length a + n) (pasted o at a) ≡ drop (at + length a + n) o
+  unfolding pasted
+  drop-pasted n =
+      let behind = drop-at (take at o ++ a) (drop (at + length a) o) (at + length a) front in
+      sym (drop-drop n (at + length a) (pasted o at a)) ∙ ap (drop n) behind ∙ drop-drop n (at + length a) o
+
+-- text that is pasted right after other text: the two joined
+pub paste-then : (o : List ℕ) (at : ℕ) (a b : List ℕ) → at ≤ length o → pasted (pasted o at a) (at + length a) b ≡ pasted o at (a ++ b)
+unfolding pasted
+paste-then o at a b h =
+    let r : at + length a + length b ≡ at + length (a ++ b) = simp length-append (omega arith) in
+    rw (take-pasted o at a h, drop-pasted o at a h (length b), r, append-assoc (take at o) a b)
+
+-- one byte more, stored right after text that was pasted
+pub paste-more : (o : List ℕ) (at : ℕ) (a : List ℕ) (x : ℕ) → at + length a < length o
+    → set (pasted o at a) (at + length a) x ≡ pasted o at (a ++ (x ∷ []))
+paste-more o at a x h =
+    let n : length (pasted o at a) ≡ length o = length-pasted o at a (omega arith) in
+    sym (paste-one (pasted o at a) (at + length a) x (omega arith)) ∙ paste-then o at a (x ∷ []) (omega arith)
+
+-- after a store, what stands from its place on
+from-store : (o : List ℕ) (i x : ℕ) → i < length o → drop i (set o i x) ≡ x ∷ drop (suc i) o
+from-store o i x h = ap (drop i) (set-split o i x h) ∙ drop-at (take i o) (x ∷ drop (suc i) o) i (length-take-le i o (omega arith))
+
+-- text that is pasted before a byte that was stored: the two joined
+pub paste-before : (o : List ℕ) (at : ℕ) (a : List ℕ) (x : ℕ) → at + length a < length o
+    → pasted (set o (at + length a) x) at a ≡ pasted o at (a ++ (x ∷ []))
+unfolding pasted
+paste-before o at a x h =
+    let ahead = take-set-le at o (at + length a) x (omega arith) in
+    let behind = from-store o (at + length a) x h in
+    let r : at + length (a ++ (x ∷ [])) ≡ suc (at + length a) = simp length-append (omega arith) in
+    rw (ahead, behind, r, ← append-assoc (take at o) a (x ∷ []), append-snoc (take at o ++ a) x (drop (suc (at + length a)) o))
+
+-- two texts that were put one after the other were put as one
+pub put-then : {o p q a b : List ℕ} {i j k : ℕ} → Put o i a p j → Put p j b q k → i ≤ length o → Put o i (a ++ b) q k
+put-then {o} {p} {q} {a} {b} {i} {j} {k} f g h =
+    record {
+      buffer = g .buffer ∙ rw (f .buffer, f .place) (paste-then o i a b h);
+      place = g .place ∙ rw (f .place, length-append a b) (omega arith);
+    }

@@ -1,0 +1,8 @@
+-- A number's last digits, as the loop that writes them from the right gives them.
+use Prim.Native.Nat.{ℕ, zero, suc, _+_, _/_, _%_}
+use mathlib.Core.List.{List, [], _∷_, _++_}
+
+-- the last k decimal digits of n, the highest first, zeros in front where n has fewer
+abbrev pub digits : ℕ → ℕ → List ℕ
+digits zero n = []
+digits (suc k) n = digits k (n / 10) ++ ((48 + n % 10) ∷ [])

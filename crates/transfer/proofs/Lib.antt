@@ -1,0 +1,13 @@
+pub mod ScanLaws
+pub mod ScanInduction
+pub mod RepeatLaws
+pub mod StopLaws
+pub mod Ends
+pub mod Bound
+pub mod Keeping
+pub mod Locality
+pub mod Lent
+pub mod Path
+pub mod Going
+pub mod Repeating
+pub mod Stopping

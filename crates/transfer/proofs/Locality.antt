@@ -1,0 +1,51 @@
+-- The transfers keep to their stations: a scan to those from N to `to`, a Repeat and a Stop to N. Their cycles are commands, and a command keeps to
+-- its station. So each leaves a fit crate fit.
+-- Assumes nothing.
+use mathlib.Core.Path.{_≡_, refl}
+use mathlib.Core.Bool.{Bool, true}
+use mathlib.Core.List.{List, []}
+use Prim.Native.Nat.{ℕ, _≤_}
+use native.Mathlib.Omega.{arith}
+use Rattle.regroup.specs.Local.{Local}
+use Rattle.dataway.specs.Crate.{FitCrate}
+use Rattle.dataway.proofs.Locality.{crate-size, local-command}
+use Rattle.transfer.specs.Cycle.{told, reads}
+use Rattle.transfer.specs.Scan.{scanBound, scanning, scanOf}
+use Rattle.transfer.specs.Repeat.{repeatOf}
+use Rattle.transfer.specs.Stop.{stopOf}
+use Rattle.transfer.proofs.Keeping.{keeps-scan, keeps-repeat, keeps-stop}
+
+local-read : (on : ℕ → Bool) (f n a k : ℕ) → 1 ≤ n → n ≤ 23 → a ≤ 15 → on n ≡ true
+    → Local FitCrate on (λ (m : List ℕ). reads f m n a k .memory) (λ (m : List ℕ). reads f m n a k .reply)
+local-read on f n a k lo hi low here = local-command on n lo hi here a f 0 low (omega arith)
+
+module _ (n a : ℕ) (lo : 1 ≤ n) (low : a ≤ 15) where
+  module _ (on : ℕ → Bool) where
+    pub local-scan : (f to limit : ℕ) → to ≤ 23 → ((i : ℕ) → n ≤ i → i ≤ to → on i ≡ true)
+        → Local FitCrate on (λ (m : List ℕ). scanOf m n a f to limit .memory) (λ (m : List ℕ). told (scanOf m n a f to limit))
+    unfolding scanning
+    local-scan f to limit top here =
+        keeps-scan FitCrate crate-size (reads f) on (local-read on f) to limit top (scanBound to n) n a [] 0 lo low here
+
+    pub local-repeat : (f limit tries : ℕ) → n ≤ 23 → on n ≡ true
+        → Local FitCrate on (λ (m : List ℕ). repeatOf m n a f limit tries .memory) (λ (m : List ℕ). told (repeatOf m n a f limit tries))
+    local-repeat f limit tries hi here =
+        keeps-repeat FitCrate crate-size (reads f) on (local-read on f) n a lo hi low here tries limit [] 0
+
+    pub local-stop : (f limit : ℕ) → n ≤ 23 → on n ≡ true
+        → Local FitCrate on (λ (m : List ℕ). stopOf m n a f limit .memory) (λ (m : List ℕ). told (stopOf m n a f limit))
+    local-stop f limit hi here = keeps-stop FitCrate crate-size (reads f) on (local-read on f) n a lo hi low here limit [] 0
+
+  -- ---- a fit crate stays fit
+  abbrev all : ℕ → Bool
+  all i = true
+
+  module _ (m : List ℕ) (h : FitCrate m) where
+    pub scan-fit : (f to limit : ℕ) → to ≤ 23 → FitCrate (scanOf m n a f to limit .memory)
+    scan-fit f to limit top = local-scan all f to limit top (λ i p q. refl) .keeps m h
+
+    pub repeat-fit : (f limit tries : ℕ) → n ≤ 23 → FitCrate (repeatOf m n a f limit tries .memory)
+    repeat-fit f limit tries hi = local-repeat all f limit tries hi refl .keeps m h
+
+    pub stop-fit : (f limit : ℕ) → n ≤ 23 → FitCrate (stopOf m n a f limit .memory)
+    stop-fit f limit hi = local-stop all f limit hi refl .keeps m h

@@ -1,0 +1,127 @@
+-- `repeat` meets its contract. The loop's invariant: the Repeat comes to what it is to come to from where it stands, with the tries that are left
+-- (`Repeating`). A cycle keeps it so; the limit reached, or no try left, is an end of the definition.
+-- Assumes nothing.
+use mathlib.Core.Path.{_≡_, ap}
+use mathlib.Core.List.{[]}
+use Prim.Native.Nat.{ℕ, _-_}
+use native.Mathlib.Omega.{arith}
+use Rattle.transfer.specs.Cycle.{reads}
+use Rattle.transfer.specs.Repeat.{repeatOf, repeatFrom}
+use Rattle.transfer.proofs.Lent.{lent-here, lent-put, made}
+use Rattle.transfer.proofs.Repeating.{Repeating, repeating-over, repeating-miss, repeating-hit, repeating-full}
+use Rattle.transfer.proofs.repeat.repeat.Statement.{statement}
+use Rattle.transfer.proofs.repeat.repeat.Tie as tie
+
+abbrev Inv-loop : tie.InvT-loop
+Inv-loop memory₀ buffer₀ n a f limit tries words₀ cycles₀ memory buffer words cycles =
+    Repeating (repeatOf memory₀ n a f limit tries) n a f limit tries memory₀ buffer₀ memory buffer words cycles
+
+abbrev μ-loop : tie.MeasureT-loop
+μ-loop memory₀ buffer₀ n a f limit tries words₀ cycles₀ memory buffer words cycles = tries - cycles
+
+loop-holds : tie.Need-loop-holds Inv-loop μ-loop
+loop-holds c =
+    let x = c .before .before .args in
+    let e : x .tries - 0 ≡ x .tries = omega arith in
+    record {
+      lent = lent-here (c .before .before .pre .0);
+      room = omega arith;
+      left = omega arith;
+      rest = ap (λ (k : ℕ). repeatFrom k (reads (x .f)) (x .n) (x .a) (x .limit) (x .memory .now) [] 0) e;
+    }
+
+command-requires : tie.Need-command-requires Inv-loop μ-loop
+command-requires c κs = (c .before .before .loop .inv .lent .fit, (omega arith, omega arith, omega arith, omega arith, omega arith))
+
+add-cycles : tie.Need-add-cycles Inv-loop μ-loop
+add-cycles c = omega arith
+
+cast-buffer : tie.Need-cast-buffer Inv-loop μ-loop
+cast-buffer c = omega arith
+
+mul-buffer : tie.Need-mul-buffer Inv-loop μ-loop
+mul-buffer c = omega arith
+
+slice-write-buffer : tie.Need-slice-write-buffer Inv-loop μ-loop
+slice-write-buffer c = omega arith
+
+add-words : tie.Need-add-words Inv-loop μ-loop
+add-words c = omega arith
+
+same-length : tie.Need-same-length Inv-loop μ-loop
+same-length c =
+    let x = c .before .before .before .before .before .command in
+    let d = made (x .ensures .0) (x .ensures .1) (omega arith) (omega arith) (omega arith) in
+    let g = c .before .before .before .before .before .before .before .before .loop .inv in
+    lent-put (g .lent) d .size
+
+same-length-2 : tie.Need-same-length-2 Inv-loop μ-loop
+same-length-2 c =
+    let x = c .before .before .before .before .before .command in
+    let d = made (x .ensures .0) (x .ensures .1) (omega arith) (omega arith) (omega arith) in
+    let g = c .before .before .before .before .before .before .before .before .loop .inv in
+    lent-put (g .lent) d .long
+
+-- the limit is reached
+returns : tie.Need-returns Inv-loop μ-loop
+returns c =
+    let x = c .before .before .before .before .before .command in
+    let d = made (x .ensures .0) (x .ensures .1) (omega arith) (omega arith) (omega arith) in
+    let g = c .before .before .before .before .before .before .before .before .loop .inv in
+    repeating-full g (omega arith) d (omega arith) (c .before .if1 .taken) (c .if2 .taken)
+
+loop-less : tie.Need-loop-less Inv-loop μ-loop
+loop-less c = omega arith
+
+-- Q = 1
+loop-again : tie.Need-loop-again Inv-loop μ-loop
+loop-again c =
+    let x = c .before .before .before .before .before .command in
+    let d = made (x .ensures .0) (x .ensures .1) (omega arith) (omega arith) (omega arith) in
+    let g = c .before .before .before .before .before .before .before .before .loop .inv in
+    repeating-hit g (omega arith) d (omega arith) (c .before .if1 .taken) (c .if2 .left)
+
+loop-less-2 : tie.Need-loop-less-2 Inv-loop μ-loop
+loop-less-2 c = omega arith
+
+-- Q = 0
+loop-again-2 : tie.Need-loop-again-2 Inv-loop μ-loop
+loop-again-2 c =
+    let x = c .before .before .before .before .command in
+    let d = made (x .ensures .0) (x .ensures .1) (omega arith) (omega arith) (omega arith) in
+    let g = c .before .before .before .before .before .before .before .loop .inv in
+    repeating-miss g (omega arith) d (omega arith) (c .if1 .left)
+
+same-length-3 : tie.Need-same-length-3 Inv-loop μ-loop
+same-length-3 c = c .before .loop .inv .lent .size
+
+same-length-4 : tie.Need-same-length-4 Inv-loop μ-loop
+same-length-4 c = c .before .loop .inv .lent .long
+
+-- cycles equal tries
+returns-2 : tie.Need-returns-2 Inv-loop μ-loop
+returns-2 c = repeating-over (c .before .loop .inv) (omega arith) (c .loop-test .left)
+
+pub repeat-spec : {M : Type 1} → statement M
+repeat-spec =
+    tie.close
+    (tie.spec
+    Inv-loop
+    μ-loop
+    loop-holds
+    command-requires
+    add-cycles
+    cast-buffer
+    mul-buffer
+    slice-write-buffer
+    add-words
+    same-length
+    same-length-2
+    returns
+    loop-less
+    loop-again
+    loop-less-2
+    loop-again-2
+    same-length-3
+    same-length-4
+    returns-2)

@@ -1,0 +1,109 @@
+-- `stop` meets its contract. The loop's invariant: the Stop comes to what it is to come to from where it stands, and each cycle so far stored a word
+-- (`Stopping`). A cycle with Q = 1 keeps it so; Q = 0, or a full count of words, is an end of the definition.
+-- Assumes nothing.
+use mathlib.Core.Path.{_≡_, refl, ap}
+use mathlib.Core.List.{[]}
+use Prim.Native.Nat.{ℕ, _-_}
+use native.Mathlib.Omega.{arith}
+use Rattle.transfer.specs.Cycle.{reads}
+use Rattle.transfer.specs.Stop.{stopOf, stopFrom}
+use Rattle.transfer.proofs.Lent.{lent-here, lent-kept, made}
+use Rattle.transfer.proofs.Stopping.{Stopping, stopping-full, stopping-miss, stopping-hit}
+use Rattle.transfer.proofs.stop.stop.Statement.{statement}
+use Rattle.transfer.proofs.stop.stop.Tie as tie
+
+abbrev Inv-loop : tie.InvT-loop
+Inv-loop memory₀ buffer₀ n a f limit words₀ cycles₀ memory buffer words cycles =
+    Stopping (stopOf memory₀ n a f limit) n a f limit memory₀ buffer₀ memory buffer words cycles
+
+abbrev μ-loop : tie.MeasureT-loop
+μ-loop memory₀ buffer₀ n a f limit words₀ cycles₀ memory buffer words cycles = limit - words
+
+loop-holds : tie.Need-loop-holds Inv-loop μ-loop
+loop-holds c =
+    let x = c .before .before .args in
+    let e : x .limit - 0 ≡ x .limit = omega arith in
+    record {
+      lent = lent-here (c .before .before .pre .0);
+      room = omega arith;
+      pace = refl;
+      rest = ap (λ (k : ℕ). stopFrom k (reads (x .f)) (x .n) (x .a) (x .memory .now) [] 0) e;
+    }
+
+command-requires : tie.Need-command-requires Inv-loop μ-loop
+command-requires c κs = (c .before .before .loop .inv .lent .fit, (omega arith, omega arith, omega arith, omega arith, omega arith))
+
+add-cycles : tie.Need-add-cycles Inv-loop μ-loop
+add-cycles c = omega arith
+
+same-length : tie.Need-same-length Inv-loop μ-loop
+same-length c =
+    let x = c .before .before .before .before .command in
+    let d = made (x .ensures .0) (x .ensures .1) (omega arith) (omega arith) (omega arith) in
+    let g = c .before .before .before .before .before .before .before .loop .inv in
+    lent-kept (g .lent) d .size
+
+same-length-2 : tie.Need-same-length-2 Inv-loop μ-loop
+same-length-2 c = c .before .before .before .before .before .before .before .loop .inv .lent .long
+
+-- Q = 0
+returns : tie.Need-returns Inv-loop μ-loop
+returns c =
+    let x = c .before .before .before .before .command in
+    let d = made (x .ensures .0) (x .ensures .1) (omega arith) (omega arith) (omega arith) in
+    let g = c .before .before .before .before .before .before .before .loop .inv in
+    stopping-miss g (omega arith) d (omega arith) (c .if1 .taken)
+
+cast-buffer : tie.Need-cast-buffer Inv-loop μ-loop
+cast-buffer c = omega arith
+
+mul-buffer : tie.Need-mul-buffer Inv-loop μ-loop
+mul-buffer c = omega arith
+
+slice-write-buffer : tie.Need-slice-write-buffer Inv-loop μ-loop
+slice-write-buffer c = omega arith
+
+add-words : tie.Need-add-words Inv-loop μ-loop
+add-words c = omega arith
+
+loop-less : tie.Need-loop-less Inv-loop μ-loop
+loop-less c = omega arith
+
+loop-again : tie.Need-loop-again Inv-loop μ-loop
+loop-again c =
+    let x = c .before .before .before .before .command in
+    let d = made (x .ensures .0) (x .ensures .1) (omega arith) (omega arith) (omega arith) in
+    let g = c .before .before .before .before .before .before .before .loop .inv in
+    stopping-hit g (omega arith) d (omega arith) (c .if1 .left)
+
+same-length-3 : tie.Need-same-length-3 Inv-loop μ-loop
+same-length-3 c = c .before .loop .inv .lent .size
+
+same-length-4 : tie.Need-same-length-4 Inv-loop μ-loop
+same-length-4 c = c .before .loop .inv .lent .long
+
+-- the limit is reached
+returns-2 : tie.Need-returns-2 Inv-loop μ-loop
+returns-2 c = stopping-full (c .before .loop .inv) (omega arith) (c .loop-test .left)
+
+pub stop-spec : {M : Type 1} → statement M
+stop-spec =
+    tie.close
+    (tie.spec
+    Inv-loop
+    μ-loop
+    loop-holds
+    command-requires
+    add-cycles
+    same-length
+    same-length-2
+    returns
+    cast-buffer
+    mul-buffer
+    slice-write-buffer
+    add-words
+    loop-less
+    loop-again
+    same-length-3
+    same-length-4
+    returns-2)

@@ -1,0 +1,4 @@
+pub mod Cycle
+pub mod Scan
+pub mod Repeat
+pub mod Stop
