@@ -18,7 +18,7 @@ use Rattle.step.specs.declared.ModuleLine.{ModuleLine}
 use Rattle.step.specs.declared.ModuleLine.the-variants.{Holds, Bad}
 use Rattle.step.specs.declared.Verdict.{Verdict}
 use Rattle.step.specs.declared.Verdict.the-variants.{Fine, Refuse}
-use Rattle.rehearsal.specs.Modules.{Installed, uninstalled, placedOf, moduleOf, installOf}
+use Rattle.rehearsal.specs.Modules.{Installed, uninstalled, judgedModuleOf, placeOf, installOf}
 
 -- r of kinds 1 to 5, by the table
 of-kind : (kind r : ℕ) → 1 ≤ kind → kind ≤ 5 → 1 ≤ r → r ≤ 16 → (kind ≡ 4 → r ≡ 1) → (leastOf kind ≤ r) × (r ≤ mostOf kind)
@@ -41,13 +41,13 @@ module-good previous p v e h =
 
 -- the two ways of a line that holds a module
 module _ (m : List ℕ) (previous : ℕ) (p : Module) (v : Verdict) (e : v ≡ moduleVerdict previous p) where
-  pub module-refused : (q : Refusal) → v ≡ Refuse q → moduleOf m previous (Holds p) ≡ record { verdict = Refuse q; memory = m }
-  unfolding moduleOf
-  module-refused q h = ap (λ (w : Verdict). placedOf w p m) (sym e ∙ h)
+  pub module-refused : (q : Refusal) → v ≡ Refuse q → placeOf m previous (Holds p) ≡ record { verdict = Refuse q; memory = m }
+  unfolding placeOf
+  module-refused q h = ap (λ (w : Verdict). judgedModuleOf w p m) (sym e ∙ h)
 
-  pub module-placed : (m′ : List ℕ) → v ≡ Fine → m′ ≡ withModule m (p .n) (p .kind) (p .r) → moduleOf m previous (Holds p) ≡ record { verdict = Fine; memory = m′ }
-  unfolding moduleOf
-  module-placed m′ h g = ap (λ (w : Verdict). placedOf w p m) (sym e ∙ h) ∙ rw g
+  pub module-placed : (m′ : List ℕ) → v ≡ Fine → m′ ≡ withModule m (p .n) (p .kind) (p .r) → placeOf m previous (Holds p) ≡ record { verdict = Fine; memory = m′ }
+  unfolding placeOf
+  module-placed m′ h g = ap (λ (w : Verdict). judgedModuleOf w p m) (sym e ∙ h) ∙ rw g
 
 -- a line on a memory that is not fit, and on one that is
 module _ (m : List ℕ) (previous : ℕ) where
@@ -55,10 +55,10 @@ module _ (m : List ℕ) (previous : ℕ) where
   unfolding installOf
   install-unfit l t = rw t
 
-  pub install-fit : (l k : ModuleLine) (i : Installed) → isFitCrate m ≡ true → l ≡ k → moduleOf m previous k ≡ i → installOf m previous l ≡ i
+  pub install-fit : (l k : ModuleLine) (i : Installed) → isFitCrate m ≡ true → l ≡ k → placeOf m previous k ≡ i → installOf m previous l ≡ i
   unfolding installOf
   install-fit l k i t e h = rw (t, e) h
 
   pub install-bad : (l : ModuleLine) (q : Refusal) → isFitCrate m ≡ true → l ≡ Bad q → installOf m previous l ≡ uninstalled q m
-  unfolding installOf moduleOf
+  unfolding installOf placeOf
   install-bad l q t e = rw (t, e)

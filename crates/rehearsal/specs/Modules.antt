@@ -22,15 +22,15 @@ abbrev pub uninstalled : Refusal → List ℕ → Installed
 uninstalled q m = record { verdict = Refuse q; memory = m }
 
 -- a module with its verdict
-abbrev pub placedOf : Verdict → Module → List ℕ → Installed
-placedOf Fine p m = record { verdict = Fine; memory = withModule m (p .n) (p .kind) (p .r) }
-placedOf (Refuse q) p m = uninstalled q m
+abbrev pub judgedModuleOf : Verdict → Module → List ℕ → Installed
+judgedModuleOf Fine p m = record { verdict = Fine; memory = withModule m (p .n) (p .kind) (p .r) }
+judgedModuleOf (Refuse q) p m = uninstalled q m
 
 -- a crate line on a fit crate, after a line for the station `previous`, 0 where there was none
-unfoldable pub moduleOf : List ℕ → (previous : ℕ) → ModuleLine → Installed
-moduleOf m previous (Holds p) = placedOf (moduleVerdict previous p) p m
-moduleOf m previous (Bad q) = uninstalled q m
+unfoldable pub placeOf : List ℕ → (previous : ℕ) → ModuleLine → Installed
+placeOf m previous (Holds p) = judgedModuleOf (moduleVerdict previous p) p m
+placeOf m previous (Bad q) = uninstalled q m
 
 -- a crate line on any memory: first 9
 unfoldable pub installOf : List ℕ → (previous : ℕ) → ModuleLine → Installed
-installOf m previous l = cond (isFitCrate m) (moduleOf m previous l) (uninstalled UnfitCrate m)
+installOf m previous l = cond (isFitCrate m) (placeOf m previous l) (uninstalled UnfitCrate m)

@@ -3,7 +3,7 @@ ghost use mathlib.Core.Path.{_≡_};
 ghost use Rattle.dataway.specs.Crate.{FitCrate};
 ghost use Rattle.runfile.specs.Read.{readModule};
 ghost use Rattle.step.specs.declared.ModuleLine.{ModuleLine};
-ghost use Rattle.rehearsal.specs.Modules.{Installed, moduleOf, installOf};
+ghost use Rattle.rehearsal.specs.Modules.{Installed, placeOf, installOf};
 use dataway::fitness::is_fit_crate;
 use step::Module;
 use step::ModuleLine;
@@ -13,7 +13,7 @@ use step::Verdict;
 // Puts a module into a fit crate, if it may stand there.
 fn place(memory: &mut [u32], previous: u32, held: Module) -> Verdict
     requires { ⌜ FitCrate (now memory) ⌝ }
-    ensures { λ r. ⌜ moduleOf (now (memory .entry)) previous (ModuleLine.Holds held) ≡ record { verdict = r; memory = now (memory .exit) } ⌝ }
+    ensures { λ r. ⌜ placeOf (now (memory .entry)) previous (ModuleLine.Holds held) ≡ record { verdict = r; memory = now (memory .exit) } ⌝ }
 {
     let verdict = step::judge_module(previous, held);
     match verdict {
