@@ -1,0 +1,232 @@
+#!/usr/bin/env python3
+"""Writes crate and run files for comparing two builds of the rehearsal.
+
+make_files.py large DIR               the large folders: mixed, transfers, garbled, past
+make_files.py random DIR FIRST COUNT  COUNT small folders DIR/SEED, of the seeds FIRST and up
+"""
+import os
+import random
+import sys
+
+LAST_LINE = 99999
+WORDS = [0, 1, 2, 5, 10, 255, 65535, 65536, 8388606, 8388607, 8388608, 8388609, 16777213, 16777214, 16777215]
+FUNCTIONS = [0, 0, 2, 2, 3, 9, 16, 18, 21, 25, 25, 8, 10, 24, 26, 26, 27, 1, 1, 11, 17, 17, 19, 23]
+
+
+def module(rng, n):
+    kind = rng.randint(1, 5)
+    return n, kind, 1 if kind == 4 else rng.choice([1, 2, 3, rng.randint(1, 16), 16])
+
+
+def crate_text(modules):
+    return "".join("n=%d kind=%d r=%d\n" % each for each in modules).encode()
+
+
+def word(rng):
+    return rng.choice(WORDS) if rng.random() < 0.6 else rng.randrange(1 << rng.randint(1, 24))
+
+
+def station(rng, modules):
+    """Most often a station with a module."""
+    if modules and rng.random() < 0.9:
+        return rng.choice(modules)
+    return rng.randint(1, 23), 0, 0
+
+
+def subaddress(rng, r, function=None):
+    if function in (1, 11, 17, 19, 23) and rng.random() < 0.9:
+        return rng.choice([12, 13, 13, 14])
+    if r and rng.random() < 0.85:
+        return rng.randrange(r)
+    return rng.randint(0, 15)
+
+
+def step(rng, modules, longest):
+    """A run line in form; a transfer asks for at most `longest` words or cycles."""
+    n, _, r = station(rng, modules)
+    pick = rng.random()
+    if pick < 0.45:
+        f = rng.choice(FUNCTIONS) if rng.random() < 0.9 else rng.randint(0, 31)
+        return "op=naf n=%d a=%d f=%d w=%d" % (n, subaddress(rng, r, f), f, word(rng))
+    if pick < 0.75:
+        return "op=front n=%d a=%d v=%d" % (n, subaddress(rng, r), word(rng))
+    if pick < 0.76:
+        return "op=z"
+    if pick < 0.78:
+        return "op=c"
+    if pick < 0.83:
+        return "op=i v=%d" % rng.choice([0, 0, 0, 1])
+    if pick < 0.88:
+        return "op=lam"
+    f = rng.choice([0, 2, 2, 3])
+    a = subaddress(rng, r) if rng.random() < 0.5 else 0
+    limit = rng.choice([1, 2, 3, 16, 17, rng.randint(1, longest)])
+    if pick < 0.93:
+        return "op=scan n=%d a=%d f=%d to=%d limit=%d" % (n, a, f, rng.randint(n, 23), limit)
+    if pick < 0.97:
+        return "op=repeat n=%d a=%d f=%d limit=%d tries=%d" % (n, a, f, limit, rng.choice([1, 2, 3, 16, rng.randint(1, longest)]))
+    return "op=stop n=%d a=%d f=%d limit=%d" % (n, a, f, limit)
+
+
+EDGES = [0, 1, 2, 3, 4, 8, 15, 16, 17, 22, 23, 24, 25, 31, 32, 512, 513, 4096, 4097, 16777215, 16777216, 99999999]
+
+
+def edge_fields(rng, line):
+    """The line with some fields at or past their bounds; in form, often refused."""
+    parts = line.split(" ")
+    for place in range(len(parts)):
+        name, number = parts[place].split("=")
+        if number.isdigit() and rng.random() < 0.4:
+            parts[place] = "%s=%d" % (name, rng.choice(EDGES))
+    return " ".join(parts)
+
+
+def spoiled(rng, line):
+    """The line, as bytes, with a fault of some shape; once in a while still in form."""
+    line = line.encode()
+    at = rng.randint(0, len(line))
+    parts = line.split(b" ")
+    shape = rng.randint(0, 17)
+    if shape == 0:
+        return b""
+    if shape == 1:
+        return line + rng.choice([b"\r", b" ", b"\t", b"\0", b"\xff", b"0", b" v=0", b"x"])
+    if shape == 2:
+        return rng.choice([b" ", b"\t", b"\r", b"\xef\xbb\xbf", b"#", b"0"]) + line
+    if shape == 3:
+        return line[:at]
+    if shape == 4:
+        return line[:at] + bytes([rng.choice([b for b in range(256) if b != 10])]) + line[at:]
+    if shape == 5:
+        return line[:at] + line[at + 1:]
+    if shape == 6:
+        return line.upper()
+    if shape == 7:
+        return line.replace(b" ", b"  ", 1)
+    if shape == 8:
+        return line.replace(b" ", b"")
+    if shape == 9:
+        rng.shuffle(parts)
+        return b" ".join(parts)
+    if shape == 10:
+        return b" ".join(parts[:-1])
+    if shape == 11:
+        return line + b" " + parts[-1]
+    if shape == 12:
+        return b"=0".join(line.rsplit(b"=", 1))
+    if shape == 13:
+        return line.rsplit(b"=", 1)[0] + b"=" + rng.choice([b"", b"-1", b"+1", b"00", b"000000001", b"100000000", b"999999999", b"4294967296", b"18446744073709551616", b"0x1", b"1.0", b"1e1"])
+    if shape == 14:
+        return line + b" " * max(0, rng.choice([79, 80, 81, 82, 83, 160]) - len(line))
+    if shape == 15:
+        return b"x" * rng.choice([79, 80, 81, 82, 83, 160, 162, 255, 256, 1000, 4096, 8192, 70000]) + line
+    if shape == 16:
+        return bytes(rng.choice([b for b in range(256) if b != 10]) for _ in range(rng.randint(1, 90)))
+    return b"op=" + rng.choice([b"put n=1 a=0 to=2 limit=1 w=0", b"within n=1 to=2 lo=0 hi=1", b"nop", b"", b"na", b"nafn=1", b"Z", b"lam "])
+
+
+def write_folder(path, crate, run):
+    os.makedirs(path, exist_ok=True)
+    for name, contents in (("crate.txt", crate), ("run.txt", run)):
+        full = os.path.join(path, name)
+        if contents is not None:
+            with open(full, "wb") as out:
+                out.write(contents)
+        elif os.path.exists(full):
+            os.remove(full)
+
+
+def mixed(path):
+    """99,999 lines of all nine kinds, one in twenty with a field past its bound, one in fifty garbled."""
+    rng = random.Random("mixed")
+    modules = [module(rng, n) for n in range(1, 24) if n not in (6, 13)]
+    lines = []
+    for _ in range(LAST_LINE):
+        line = step(rng, modules, 64)
+        pick = rng.random()
+        if pick < 0.05:
+            line = edge_fields(rng, line)
+        lines.append(spoiled(rng, line)[:200] if pick > 0.98 else line.encode())
+    write_folder(path, crate_text(modules), b"\n".join(lines) + b"\n")
+
+
+def transfers(path):
+    """20,000 scans of many stations and repeats of many cycles."""
+    rng = random.Random("transfers")
+    modules = [(n, 1, 16) for n in range(1, 21)] + [(21, 4, 1), (22, 2, 16), (23, 5, 16)]
+    lines = []
+    for place in range(20000):
+        if place % 2 == 0:
+            lines.append("op=scan n=%d a=0 f=%d to=23 limit=512" % (rng.randint(1, 3), rng.choice([0, 0, 3])))
+        elif place % 4 == 1:
+            lines.append("op=repeat n=21 a=0 f=2 limit=512 tries=4096")
+        else:
+            lines.append("op=repeat n=%d a=%d f=0 limit=512 tries=4096" % (rng.randint(1, 20), rng.randint(0, 15)))
+    write_folder(path, crate_text(modules), "".join(line + "\n" for line in lines).encode())
+
+
+def garbled(path):
+    """99,999 lines in no form: each ends in a byte that ends no line in form."""
+    rng = random.Random("garbled")
+    modules = [module(rng, n) for n in range(1, 24)]
+    ends = [b" ", b"\r", b"\0", b"\xff", b"x", b"=", b"\t"]
+    lines = [spoiled(rng, step(rng, modules, 512))[:300] + rng.choice(ends) for _ in range(LAST_LINE)]
+    write_folder(path, crate_text(modules), b"\n".join(lines) + b"\n")
+
+
+def past(path):
+    """Three lines more than are read."""
+    run = b"op=lam\n" * (LAST_LINE - 1) + b"op=z\n" + b"op=lam\n\nop=c\n"
+    write_folder(path, b"n=3 kind=1 r=2\n", run)
+
+
+def random_crate(rng):
+    modules = [module(rng, n) for n in range(1, 24) if rng.random() < rng.choice([0.1, 0.3, 1.0])]
+    text = crate_text(modules)
+    pick = rng.random()
+    if pick < 0.8:
+        return modules, text
+    if pick < 0.85:
+        return [], rng.choice([None, b"", b"\n"])
+    lines = text.split(b"\n")[:-1] or [b"n=1 kind=1 r=1"]
+    at = rng.randrange(len(lines))
+    if pick < 0.92:
+        lines[at] = edge_fields(rng, lines[at].decode()).encode()
+    elif pick < 0.96:
+        lines[at] = spoiled(rng, lines[at].decode())
+    elif pick < 0.98:
+        lines.insert(at, rng.choice(lines))
+    else:
+        rng.shuffle(lines)
+    return modules, b"\n".join(lines) + rng.choice([b"\n", b"", b"\n\n"])
+
+
+def random_folder(path, seed):
+    rng = random.Random("folder %d" % seed)
+    modules, crate = random_crate(rng)
+    bad = rng.choice([0.0, 0.05, 0.3])
+    lines = []
+    for _ in range(rng.choice([0, 1, 5, 40, 200])):
+        line = step(rng, modules, 512)
+        pick = rng.random()
+        if pick < bad:
+            lines.append(spoiled(rng, line))
+        else:
+            lines.append((edge_fields(rng, line) if pick < 2 * bad else line).encode())
+    run = b"\n".join(lines) + (b"\n" if lines and rng.random() < 0.9 else b"")
+    write_folder(path, crate, None if not lines and rng.random() < 0.5 else run)
+
+
+def main():
+    if len(sys.argv) == 3 and sys.argv[1] == "large":
+        for make in (mixed, transfers, garbled, past):
+            make(os.path.join(sys.argv[2], make.__name__))
+    elif len(sys.argv) == 5 and sys.argv[1] == "random":
+        for seed in range(int(sys.argv[3]), int(sys.argv[3]) + int(sys.argv[4])):
+            random_folder(os.path.join(sys.argv[2], str(seed)), seed)
+    else:
+        sys.exit(__doc__.strip())
+
+
+if __name__ == "__main__":
+    main()

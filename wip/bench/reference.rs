@@ -1,0 +1,568 @@
+// The CAMAC rehearsal in plain Rust, written from document 01 and the readings of it alone.
+// It shares no code with the proved program, so that the two can be compared.
+// Build: rustc -O reference.rs. It reads crate.txt and run.txt in the current
+// folder and prints the sheet.
+
+use std::collections::VecDeque;
+use std::io::{self, Write};
+
+const STATIONS: u32 = 23;
+const LAST_LINE: usize = 99_999;
+const LONGEST_LINE: usize = 80;
+const MODULUS: u32 = 1 << 24;
+const WORD_MAX: u32 = MODULUS - 1;
+const BUFFER_PLACES: usize = 16;
+
+const GARBLED: u32 = 1;
+const NO_SUCH_STATION: u32 = 2;
+const NO_SUCH_SUBADDRESS: u32 = 3;
+const NO_SUCH_FUNCTION: u32 = 4;
+const OVERWIDE_WORD: u32 = 5;
+const CROSSED_RANGE: u32 = 6;
+const BAD_LENGTH: u32 = 7;
+const BAD_MODULE: u32 = 10;
+const OUT_OF_ORDER: u32 = 11;
+
+// ---- modules ----
+
+#[derive(Clone, Copy, PartialEq)]
+enum Kind {
+    Empty,
+    Scaler,
+    Output,
+    Input,
+    Buffer,
+    Counter,
+}
+
+#[derive(Clone)]
+struct Module {
+    kind: Kind,
+    r: u32,
+    status: u32,
+    mask: u32,
+    registers: [u32; 16],
+    // The words of a buffer memory, the oldest first. Head is never printed, so none is kept.
+    words: VecDeque<u32>,
+}
+
+struct Crate {
+    inhibit: bool,
+    stations: Vec<Module>, // place n is station n; place 0 is not used
+}
+
+#[derive(Clone, Copy)]
+struct Reply {
+    x: u32,
+    q: u32,
+    r: u32,
+}
+
+const NOT_ACCEPTED: Reply = Reply { x: 0, q: 0, r: 0 };
+const DONE: Reply = Reply { x: 1, q: 1, r: 0 };
+
+fn read_word(word: u32) -> Reply {
+    Reply { x: 1, q: 1, r: word }
+}
+
+fn test(bit: bool) -> Reply {
+    Reply { x: 1, q: bit as u32, r: 0 }
+}
+
+fn complement(word: u32) -> u32 {
+    WORD_MAX - word
+}
+
+// A 24-bit word as a signed number.
+fn signed(word: u32) -> i64 {
+    if word < MODULUS / 2 {
+        word as i64
+    } else {
+        word as i64 - MODULUS as i64
+    }
+}
+
+impl Module {
+    fn empty() -> Module {
+        Module::new(Kind::Empty, 0)
+    }
+
+    fn new(kind: Kind, r: u32) -> Module {
+        Module { kind, r, status: 0, mask: 0, registers: [0; 16], words: VecDeque::new() }
+    }
+
+    fn sources(&self) -> u32 {
+        match self.kind {
+            Kind::Empty | Kind::Output => 0,
+            Kind::Buffer => 2,
+            Kind::Scaler | Kind::Input | Kind::Counter => self.r,
+        }
+    }
+
+    fn command(&mut self, a: u32, f: u32, w: u32) -> Reply {
+        match f {
+            0 | 2 | 3 | 9 => {
+                if self.kind == Kind::Buffer {
+                    self.buffer_command(a, f)
+                } else {
+                    self.register_command(a, f)
+                }
+            }
+            16 | 18 | 21 => self.write_command(a, f, w),
+            25 => self.increment(a),
+            8 | 10 | 24 | 26 | 27 => self.lam_command(a, f),
+            1 | 11 | 17 | 19 | 23 => self.group_2_command(a, f, w),
+            _ => NOT_ACCEPTED,
+        }
+    }
+
+    // F0, F2, F3, F9 at kinds 1, 2, 3, 5. An empty station has r = 0.
+    fn register_command(&mut self, a: u32, f: u32) -> Reply {
+        if a >= self.r {
+            return NOT_ACCEPTED;
+        }
+        let register = &mut self.registers[a as usize];
+        let old = *register;
+        match f {
+            0 => read_word(old),
+            2 => {
+                *register = 0;
+                read_word(old)
+            }
+            3 => read_word(complement(old)),
+            _ => {
+                *register = 0;
+                DONE
+            }
+        }
+    }
+
+    // F0, F2, F3, F9 at a buffer memory.
+    fn buffer_command(&mut self, a: u32, f: u32) -> Reply {
+        if a != 0 {
+            return NOT_ACCEPTED;
+        }
+        if f == 9 {
+            self.words.clear();
+            self.status &= !1;
+            return DONE;
+        }
+        let oldest = match self.words.front() {
+            Some(word) => *word,
+            None => return Reply { x: 1, q: 0, r: 0 },
+        };
+        if f == 3 {
+            return read_word(complement(oldest));
+        }
+        if f == 2 {
+            self.words.pop_front();
+            if self.words.is_empty() {
+                self.status &= !1;
+            }
+        }
+        read_word(oldest)
+    }
+
+    fn write_command(&mut self, a: u32, f: u32, w: u32) -> Reply {
+        let takes = match f {
+            16 => self.kind == Kind::Output || self.kind == Kind::Counter,
+            _ => self.kind == Kind::Output,
+        };
+        if !takes || a >= self.r {
+            return NOT_ACCEPTED;
+        }
+        let register = &mut self.registers[a as usize];
+        *register = match f {
+            16 => w,
+            18 => *register | w,
+            _ => *register & !w,
+        };
+        DONE
+    }
+
+    // F25, which does not look at Inhibit.
+    fn increment(&mut self, a: u32) -> Reply {
+        if self.kind != Kind::Scaler || a >= self.r {
+            return NOT_ACCEPTED;
+        }
+        self.count(a, 1);
+        DONE
+    }
+
+    // A scaler's sum, with the carry into its status bit.
+    fn count(&mut self, a: u32, v: u32) {
+        let sum = self.registers[a as usize] + v;
+        self.registers[a as usize] = sum % MODULUS;
+        if sum >= MODULUS {
+            self.status |= 1 << a;
+        }
+    }
+
+    fn lam_command(&mut self, a: u32, f: u32) -> Reply {
+        if a >= self.sources() {
+            return NOT_ACCEPTED;
+        }
+        let bit = 1 << a;
+        match f {
+            8 => return test(self.status & self.mask & bit != 0),
+            27 => return test(self.status & bit != 0),
+            10 => self.status &= !bit,
+            24 => self.mask &= !bit,
+            _ => self.mask |= bit,
+        }
+        DONE
+    }
+
+    fn group_2_command(&mut self, a: u32, f: u32, w: u32) -> Reply {
+        let s = self.sources();
+        if s == 0 {
+            return NOT_ACCEPTED;
+        }
+        let w = w % (1 << s);
+        match (f, a) {
+            (1, 12) => return read_word(self.status),
+            (1, 13) => return read_word(self.mask),
+            (1, 14) => return read_word(self.status & self.mask),
+            (11, 12) => self.status = 0,
+            (11, 13) => self.mask = 0,
+            (17, 13) => self.mask = w,
+            (19, 13) => self.mask |= w,
+            (23, 12) => self.status &= !w,
+            (23, 13) => self.mask &= !w,
+            _ => return NOT_ACCEPTED,
+        }
+        DONE
+    }
+
+    // A front event with Inhibit at 0; says whether it was taken.
+    fn front(&mut self, a: u32, v: u32) -> bool {
+        if a >= self.r {
+            return false;
+        }
+        match self.kind {
+            Kind::Empty | Kind::Output => false,
+            Kind::Scaler => {
+                self.count(a, v);
+                true
+            }
+            Kind::Input => {
+                self.registers[a as usize] = v;
+                self.status |= 1 << a;
+                true
+            }
+            Kind::Counter => {
+                let old = signed(self.registers[a as usize]);
+                let sum = old + signed(v);
+                let outside = sum < -8_388_608 || sum > 8_388_607;
+                if outside || (sum == 0 && old != 0) {
+                    self.status |= 1 << a;
+                }
+                self.registers[a as usize] = sum.rem_euclid(MODULUS as i64) as u32;
+                true
+            }
+            Kind::Buffer => {
+                if self.words.len() == BUFFER_PLACES {
+                    self.status |= 2;
+                    false
+                } else {
+                    self.words.push_back(v);
+                    self.status |= 1;
+                    true
+                }
+            }
+        }
+    }
+}
+
+// ---- the crate ----
+
+// The answer of a transfer; its words are in the list handed in.
+struct Transfer {
+    end: u32,
+    cycles: u32,
+}
+
+impl Crate {
+    fn new() -> Crate {
+        Crate { inhibit: false, stations: vec![Module::empty(); STATIONS as usize + 1] }
+    }
+
+    fn command(&mut self, n: u32, a: u32, f: u32, w: u32) -> Reply {
+        self.stations[n as usize].command(a, f, w)
+    }
+
+    fn front(&mut self, n: u32, a: u32, v: u32) -> bool {
+        !self.inhibit && self.stations[n as usize].front(a, v)
+    }
+
+    fn initialize(&mut self) {
+        for module in &mut self.stations {
+            *module = Module::new(module.kind, module.r);
+        }
+        self.inhibit = true;
+    }
+
+    fn clear(&mut self) {
+        for module in &mut self.stations {
+            for a in 0..module.r {
+                module.command(a, 9, 0);
+            }
+        }
+    }
+
+    fn look_at_me(&self) -> (u32, u32, u32) {
+        let (mut l, mut count, mut first) = (0, 0, 0);
+        for n in 1..=STATIONS {
+            let module = &self.stations[n as usize];
+            if module.status & module.mask != 0 {
+                l |= 1 << (n - 1);
+                count += 1;
+                if first == 0 {
+                    first = n;
+                }
+            }
+        }
+        (l, count, first)
+    }
+
+    // One cycle of a transfer: a command, whose word is stored when Q = 1.
+    fn cycle(&mut self, n: u32, a: u32, f: u32, words: &mut Vec<u32>) -> bool {
+        let reply = self.command(n, a, f, 0);
+        if reply.q == 1 {
+            words.push(reply.r);
+        }
+        reply.q == 1
+    }
+
+    fn scan(&mut self, n: u32, a: u32, f: u32, to: u32, limit: u32, words: &mut Vec<u32>) -> Transfer {
+        let (mut n, mut a, mut cycles) = (n, a, 0);
+        loop {
+            if words.len() == limit as usize {
+                return Transfer { end: 1, cycles };
+            }
+            if n > to {
+                return Transfer { end: 2, cycles };
+            }
+            cycles += 1;
+            if self.cycle(n, a, f, words) && a < 15 {
+                a += 1;
+            } else {
+                n += 1;
+                a = 0;
+            }
+        }
+    }
+
+    fn repeat(&mut self, n: u32, a: u32, f: u32, limit: u32, tries: u32, words: &mut Vec<u32>) -> Transfer {
+        let mut cycles = 0;
+        loop {
+            if words.len() == limit as usize {
+                return Transfer { end: 1, cycles };
+            }
+            if cycles == tries {
+                return Transfer { end: 2, cycles };
+            }
+            cycles += 1;
+            self.cycle(n, a, f, words);
+        }
+    }
+
+    fn stop(&mut self, n: u32, a: u32, f: u32, limit: u32, words: &mut Vec<u32>) -> Transfer {
+        let mut cycles = 0;
+        loop {
+            if words.len() == limit as usize {
+                return Transfer { end: 1, cycles };
+            }
+            cycles += 1;
+            if !self.cycle(n, a, f, words) {
+                return Transfer { end: 2, cycles };
+            }
+        }
+    }
+}
+
+// ---- judging ----
+
+fn judge(refused: bool, number: u32) -> Result<(), u32> {
+    if refused {
+        Err(number)
+    } else {
+        Ok(())
+    }
+}
+
+fn judge_station(n: u32) -> Result<(), u32> {
+    judge(n < 1 || n > STATIONS, NO_SUCH_STATION)
+}
+
+fn judge_subaddress(a: u32) -> Result<(), u32> {
+    judge(a > 15, NO_SUCH_SUBADDRESS)
+}
+
+fn judge_word(w: u32) -> Result<(), u32> {
+    judge(w > WORD_MAX, OVERWIDE_WORD)
+}
+
+fn judge_limit(limit: u32) -> Result<(), u32> {
+    judge(limit < 1 || limit > 512, BAD_LENGTH)
+}
+
+// The first three fields of every transfer.
+fn judge_transfer(n: u32, a: u32, f: u32) -> Result<(), u32> {
+    judge_station(n)?;
+    judge_subaddress(a)?;
+    judge(f != 0 && f != 2 && f != 3, NO_SUCH_FUNCTION)
+}
+
+// ---- lines ----
+
+// The lines of a file that are read. A file that ends in LF has no further line.
+fn lines(file: &[u8]) -> impl Iterator<Item = &[u8]> {
+    let last = match file.strip_suffix(b"\n") {
+        Some(rest) => Some(rest),
+        None if file.is_empty() => None,
+        None => Some(file),
+    };
+    last.into_iter().flat_map(|text| text.split(|byte| *byte == b'\n')).take(LAST_LINE)
+}
+
+// The numbers of a line that is `head` followed by exactly these fields.
+fn fields<const COUNT: usize>(line: &[u8], head: &str, names: [&str; COUNT]) -> Option<[u32; COUNT]> {
+    if line.len() > LONGEST_LINE {
+        return None;
+    }
+    let mut rest = line.strip_prefix(head.as_bytes())?;
+    let mut numbers = [0; COUNT];
+    for (place, name) in names.iter().enumerate() {
+        rest = rest.strip_prefix(name.as_bytes())?;
+        let digits = rest.iter().take_while(|byte| byte.is_ascii_digit()).count();
+        if digits < 1 || digits > 8 || (digits > 1 && rest[0] == b'0') {
+            return None;
+        }
+        for digit in &rest[..digits] {
+            numbers[place] = numbers[place] * 10 + (digit - b'0') as u32;
+        }
+        rest = &rest[digits..];
+    }
+    if rest.is_empty() {
+        Some(numbers)
+    } else {
+        None
+    }
+}
+
+// One line of crate.txt, after a line for station `previous` (0 before the first).
+fn crate_line(line: &[u8], previous: u32) -> Result<(u32, Module), u32> {
+    let [n, kind, r] = fields(line, "", ["n=", " kind=", " r="]).ok_or(GARBLED)?;
+    judge_station(n)?;
+    judge(n <= previous, OUT_OF_ORDER)?;
+    let (kind, most) = match kind {
+        1 => (Kind::Scaler, 16),
+        2 => (Kind::Output, 16),
+        3 => (Kind::Input, 16),
+        4 => (Kind::Buffer, 1),
+        5 => (Kind::Counter, 16),
+        _ => return Err(BAD_MODULE),
+    };
+    judge(r < 1 || r > most, BAD_MODULE)?;
+    Ok((n, Module::new(kind, r)))
+}
+
+// One line of run.txt: the rest of its sheet line after `step=K `, and the words of a transfer.
+fn run_line(memory: &mut Crate, line: &[u8], words: &mut Vec<u32>) -> Result<String, u32> {
+    if let Some([n, a, f, w]) = fields(line, "op=naf", [" n=", " a=", " f=", " w="]) {
+        judge_station(n)?;
+        judge_subaddress(a)?;
+        judge(f > 31, NO_SUCH_FUNCTION)?;
+        judge_word(w)?;
+        let reply = memory.command(n, a, f, w);
+        return Ok(format!("x={} q={} r={}", reply.x, reply.q, reply.r));
+    }
+    if let Some([n, a, v]) = fields(line, "op=front", [" n=", " a=", " v="]) {
+        judge_station(n)?;
+        judge_subaddress(a)?;
+        judge_word(v)?;
+        let taken = memory.front(n, a, v);
+        return Ok(format!("taken={}", taken as u32));
+    }
+    if fields(line, "op=z", []).is_some() {
+        memory.initialize();
+        return Ok("done=1".to_string());
+    }
+    if fields(line, "op=c", []).is_some() {
+        memory.clear();
+        return Ok("done=1".to_string());
+    }
+    if let Some([v]) = fields(line, "op=i", [" v="]) {
+        judge(v > 1, OVERWIDE_WORD)?;
+        memory.inhibit = v == 1;
+        return Ok("done=1".to_string());
+    }
+    if fields(line, "op=lam", []).is_some() {
+        let (l, count, first) = memory.look_at_me();
+        return Ok(format!("l={} count={} first={}", l, count, first));
+    }
+    let transfer = if let Some([n, a, f, to, limit]) = fields(line, "op=scan", [" n=", " a=", " f=", " to=", " limit="]) {
+        judge_transfer(n, a, f)?;
+        judge(to < n || to > STATIONS, CROSSED_RANGE)?;
+        judge_limit(limit)?;
+        memory.scan(n, a, f, to, limit, words)
+    } else if let Some([n, a, f, limit, tries]) = fields(line, "op=repeat", [" n=", " a=", " f=", " limit=", " tries="]) {
+        judge_transfer(n, a, f)?;
+        judge_limit(limit)?;
+        judge(tries < 1 || tries > 4096, BAD_LENGTH)?;
+        memory.repeat(n, a, f, limit, tries, words)
+    } else if let Some([n, a, f, limit]) = fields(line, "op=stop", [" n=", " a=", " f=", " limit="]) {
+        judge_transfer(n, a, f)?;
+        judge_limit(limit)?;
+        memory.stop(n, a, f, limit, words)
+    } else {
+        return Err(GARBLED);
+    };
+    Ok(format!("end={} words={} cycles={}", transfer.end, words.len(), transfer.cycles))
+}
+
+// ---- the program ----
+
+// A missing file is empty; so is one that cannot be read, which is told on standard error.
+fn read_file(name: &str) -> Vec<u8> {
+    match std::fs::read(name) {
+        Ok(bytes) => bytes,
+        Err(error) => {
+            if error.kind() != io::ErrorKind::NotFound {
+                eprintln!("{}: {}", name, error);
+            }
+            Vec::new()
+        }
+    }
+}
+
+fn main() -> io::Result<()> {
+    let mut sheet = io::BufWriter::with_capacity(1 << 16, io::stdout().lock());
+    let mut memory = Crate::new();
+    let mut previous = 0;
+    for (place, line) in lines(&read_file("crate.txt")).enumerate() {
+        match crate_line(line, previous) {
+            Ok((n, module)) => {
+                memory.stations[n as usize] = module;
+                previous = n;
+            }
+            Err(number) => {
+                writeln!(sheet, "crate={} refused={}", place + 1, number)?;
+                return sheet.flush();
+            }
+        }
+    }
+    let mut words = Vec::with_capacity(512);
+    for (place, line) in lines(&read_file("run.txt")).enumerate() {
+        words.clear();
+        match run_line(&mut memory, line, &mut words) {
+            Ok(answer) => writeln!(sheet, "step={} {}", place + 1, answer)?,
+            Err(number) => writeln!(sheet, "step={} refused={}", place + 1, number)?,
+        }
+        for word in &words {
+            writeln!(sheet, "word={}", word)?;
+        }
+    }
+    sheet.flush()
+}
