@@ -3,3 +3,4 @@ pub mod Sentences
 pub mod Arms
 pub mod Samples
 pub mod Bench
+pub mod PlacingLaws

@@ -5,6 +5,9 @@ ghost use Rattle.dataway.specs.Crate.{FitCrate};
 ghost use Rattle.step.specs.Verdict.{stepVerdict, isFine};
 ghost use Rattle.step.specs.declared.Reading.{Reading};
 ghost use Rattle.controller.specs.Steps.{order, performed, actOf, doneOf};
+
+pub mod placing;
+
 use dataway::control;
 use dataway::lam;
 use dataway::lam::LamReading;

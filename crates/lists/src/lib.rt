@@ -22,7 +22,7 @@ pub const ANSWER_WORDS: usize = 4;
 pub const BUFFER_WORDS: usize = 512;
 
 // The step of six words.
-fn read_step(words: &[u32]) -> Reading
+pub fn read_step(words: &[u32]) -> Reading
     requires { ⌜ length (now words) ≡ 6 ⌝ }
     ensures { λ r. ⌜ r ≡ readingOf (now (words .entry)) ⌝ }
 {

@@ -1,29 +1,13 @@
 // One line of a crate file on a lent crate.
 ghost use mathlib.Core.Path.{_≡_};
-ghost use Rattle.dataway.specs.Crate.{FitCrate};
 ghost use Rattle.runfile.specs.Read.{readModule};
-ghost use Rattle.step.specs.declared.ModuleLine.{ModuleLine};
-ghost use Rattle.rehearsal.specs.Modules.{Installed, placeOf, installOf};
+ghost use Rattle.controller.specs.Placing.{Installed};
+ghost use Rattle.rehearsal.specs.Modules.{installOf};
+use controller::placing::place;
 use dataway::fitness::is_fit_crate;
-use step::Module;
 use step::ModuleLine;
 use step::Refusal;
 use step::Verdict;
-
-// Puts a module into a fit crate, if it may stand there.
-fn place(memory: &mut [u32], previous: u32, held: Module) -> Verdict
-    requires { ⌜ FitCrate (now memory) ⌝ }
-    ensures { λ r. ⌜ placeOf (now (memory .entry)) previous (ModuleLine.Holds held) ≡ record { verdict = r; memory = now (memory .exit) } ⌝ }
-{
-    let verdict = step::judge_module(previous, held);
-    match verdict {
-        Verdict::Refuse(q) => Verdict::Refuse(q),
-        Verdict::Fine => {
-            dataway::put_module(memory, held.n, held.kind, held.r);
-            Verdict::Fine
-        }
-    }
-}
 
 // One line of a crate file, after a line for the station `previous` (0 before the first): 9, then 1, 2, 11, 10, else the module is put in.
 pub fn crate_line(memory: &mut [u32], previous: u32, line: &[u8]) -> Verdict

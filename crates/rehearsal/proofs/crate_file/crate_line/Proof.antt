@@ -38,7 +38,7 @@ returns-2 c = install-fit _ _ _ _ _
     (sym (c .before .before .before .before .before .before .before .before .before .is-fit-crate .ensures)
     ∙ not-false _ (c .before .before .before .before .before .before .before .before .if1 .left))
     (sym (c .before .before .before .before .before .before .before .read-module .ensures .0)
-    ∙ (c .before .before .before .before .before .read .given .1)) (c .before .before .place .ensures)
+    ∙ (c .before .before .before .before .before .read .given .1)) (c .before .before .place .ensures .0)
 
 same-length-3 : tie.Need-same-length-3
 same-length-3 c = search needs

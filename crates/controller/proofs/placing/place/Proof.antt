@@ -1,8 +1,8 @@
 -- `place` meets its contract: a module that is judged fine has a station, a kind and an r that `put_module` takes (`module-good`).
 use borrow.Author.Needs.{needs}
-use Rattle.rehearsal.proofs.ModuleLaws.{module-good, module-refused, module-placed}
-use Rattle.rehearsal.proofs.crate_file.place.Statement.{statement}
-use Rattle.rehearsal.proofs.crate_file.place.Tie as tie
+use Rattle.controller.proofs.PlacingLaws.{module-good, module-refused, module-placed, placed-fit}
+use Rattle.controller.proofs.placing.place.Statement.{statement}
+use Rattle.controller.proofs.placing.place.Tie as tie
 
 judge-module-requires : tie.Need-judge-module-requires
 judge-module-requires c κs = search needs
@@ -20,14 +20,22 @@ put-module-requires c κs = (
 )
 
 returns : tie.Need-returns
-returns c = module-refused _ _ _ _ (c .before .before .before .judge-module .ensures) _ (c .before .verdict .given .1)
+returns c = (
+  module-refused _ _ _ _ (c .before .before .before .judge-module .ensures) _ (c .before .verdict .given .1),
+  c .before .before .before .before .before .pre,
+)
 
 same-length : tie.Need-same-length
 same-length c = search needs
 
 returns-2 : tie.Need-returns-2
-returns-2 c = module-placed _ _ _ _ (c .before .before .before .before .before .before .judge-module .ensures) _
-    (c .before .before .before .before .enum-told .given .1) (c .before .before .put-module .ensures)
+returns-2 c = (
+  module-placed _ _ _ _ (c .before .before .before .before .before .before .judge-module .ensures) _
+      (c .before .before .before .before .enum-told .given .1) (c .before .before .put-module .ensures),
+  placed-fit _ _ _ _ (c .before .before .before .before .before .before .judge-module .ensures) _
+      (c .before .before .before .before .enum-told .given .1) (c .before .before .put-module .ensures)
+      (c .before .before .before .before .before .before .before .before .pre),
+)
 
 pub place-spec : {M : Type 1} → statement M
 place-spec =

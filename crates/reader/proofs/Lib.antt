@@ -1,0 +1,4 @@
+-- The laws of `reader`.
+pub mod ReadingLaws
+pub mod Whole
+pub mod Span

@@ -1,0 +1,182 @@
+-- `chunk_lines` meets its contract.
+use native.Mathlib.Omega.{arith}
+use Prim.Native.Nat.{_-_, _≤_}
+use mathlib.Core.Path.{_≡_, refl, sym, ap, _∙_}
+use Rattle.dataway.specs.Crate.{FitCrate}
+use lib.ListN.{length, take, drop, getD}
+use Rattle.reader.specs.Reading.{State, stateOf, feed, step}
+use Rattle.reader.proofs.ReadingLaws.{fed-more, begun}
+use Rattle.reader.proofs.Span.{fed-span, no-lf}
+use Rattle.reader.proofs.chunk_lines.Statement.{statement}
+use Rattle.reader.proofs.chunk_lines.Tie as tie
+
+abbrev Inv-loop : tie.InvT-loop
+Inv-loop text line₀ memory₀ out₀ r₀ i₀ line memory out r i =
+    (i ≤ length text)
+    × (length line ≡ length line₀)
+    × (length memory ≡ length memory₀)
+    × (length out ≡ length out₀)
+    × (r .fill ≤ 81)
+    × (r .at ≤ length out)
+    × FitCrate memory
+    × (i ≡ 0 → r .at ≤ r₀ .at)
+    × (stateOf r line memory out ≡ feed (stateOf r₀ line₀ memory₀ out₀) (take i text))
+
+abbrev μ-loop : tie.MeasureT-loop
+μ-loop text line₀ memory₀ out₀ r₀ i₀ line memory out r i = length text - i
+
+loop-holds : tie.Need-loop-holds Inv-loop μ-loop
+loop-holds c = (omega arith, refl, refl, refl, omega arith, omega arith, (c .before .before .before .before .pre .fit), λ h. omega arith, refl)
+
+same-length : tie.Need-same-length Inv-loop μ-loop
+same-length c = omega arith
+
+same-length-2 : tie.Need-same-length-2 Inv-loop μ-loop
+same-length-2 c = omega arith
+
+same-length-3 : tie.Need-same-length-3 Inv-loop μ-loop
+same-length-3 c = omega arith
+
+returns : tie.Need-returns Inv-loop μ-loop
+returns c = let l = c .before .before .loop in (
+  l .inv .8,
+  (record { filled = omega arith; lined = omega arith; within = omega arith; fit = l .inv .6 }, (l .inv .0, λ h k. omega arith)),
+)
+
+sub-if2 : tie.Need-sub-if2 Inv-loop μ-loop
+sub-if2 c = omega arith
+
+same-length-4 : tie.Need-same-length-4 Inv-loop μ-loop
+same-length-4 c = omega arith
+
+same-length-5 : tie.Need-same-length-5 Inv-loop μ-loop
+same-length-5 c = omega arith
+
+same-length-6 : tie.Need-same-length-6 Inv-loop μ-loop
+same-length-6 c = omega arith
+
+returns-2 : tie.Need-returns-2 Inv-loop μ-loop
+returns-2 c = let l = c .before .before .before .before .loop in (
+  l .inv .8,
+  (record { filled = omega arith; lined = omega arith; within = omega arith; fit = l .inv .6 }, (l .inv .0, λ h k. begun (l .i) _ (l .r .at) (length (l .out)) (l .inv .7) (omega arith) (omega arith))),
+)
+
+find-lf-requires : tie.Need-find-lf-requires Inv-loop μ-loop
+find-lf-requires c κs = omega arith
+
+sub-take-span : tie.Need-sub-take-span Inv-loop μ-loop
+sub-take-span c = omega arith
+
+part-take-span-start : tie.Need-part-take-span-start Inv-loop μ-loop
+part-take-span-start c = omega arith
+
+part-take-span-end : tie.Need-part-take-span-end Inv-loop μ-loop
+part-take-span-end c = omega arith
+
+take-span-requires : tie.Need-take-span-requires Inv-loop μ-loop
+take-span-requires c κs = (omega arith, no-lf (c .before .before .before .before .before .before .before .before .before .before .before .before .args .text .now) (c .before .before .before .before .before .before .before .loop .i) (c .before .before .find-lf .result) (c .before .before .find-lf .ensures))
+
+same-length-7 : tie.Need-same-length-7 Inv-loop μ-loop
+same-length-7 c = omega arith
+
+same-length-8 : tie.Need-same-length-8 Inv-loop μ-loop
+same-length-8 c = omega arith
+
+same-length-9 : tie.Need-same-length-9 Inv-loop μ-loop
+same-length-9 c = omega arith
+
+returns-3 : tie.Need-returns-3 Inv-loop μ-loop
+returns-3 c =
+    let a = c .before .before .before .before .before .before .before .before .before .before .before .before .before .before .before .before .args in
+    let l = c .before .before .before .before .before .before .before .before .before .before .before .loop in
+    let e = c .before .before .before .before .before .before .find-lf .result in
+    let s₀ = stateOf (a .s) (a .line .now) (a .memory .now) (a .out .now) in (
+      c .before .before .before .take-span .ensures .0 (l .memory) (l .out)
+          ∙ ap (λ (s : State). feed s (take (e - l .i) (drop (l .i) (a .text .now)))) (l .inv .8)
+          ∙ sym (fed-span s₀ (a .text .now) (l .i) e (omega arith)),
+      (record { filled = omega arith; lined = omega arith; within = omega arith; fit = l .inv .6 }, (omega arith, λ h k. omega arith)),
+    )
+
+shared-slice-read-take-byte : tie.Need-shared-slice-read-take-byte Inv-loop μ-loop
+shared-slice-read-take-byte c = omega arith
+
+take-byte-requires : tie.Need-take-byte-requires Inv-loop μ-loop
+take-byte-requires c κs = record { filled = omega arith; lined = omega arith; room = omega arith; fit = (c .before .before .before .before .before .before .before .before .before .before .before .before .before .before .before .loop .inv .6) }
+
+add-i : tie.Need-add-i Inv-loop μ-loop
+add-i c = omega (arith, c .before .before .before .before .before .before .before .before .before .before .before .before .before .before .before .before .before .before .before .before .before .before .before .before .before .before .before .good .0 .0)
+
+loop-less : tie.Need-loop-less Inv-loop μ-loop
+loop-less c = omega arith
+
+loop-again : tie.Need-loop-again Inv-loop μ-loop
+loop-again c =
+    let a = c .before .before .before .before .before .before .before .before .before .before .before .before .before .before .before .before .before .before .before .before .before .before .before .before .before .before .before .args in
+    let l = c .before .before .before .before .before .before .before .before .before .before .before .before .before .before .before .before .before .before .before .before .before .before .loop in
+    let e = c .before .before .before .before .before .before .before .before .before .before .before .before .before .before .before .before .before .find-lf .result in
+    let b = getD (a .text .now) e 0 in
+    let s₀ = stateOf (a .s) (a .line .now) (a .memory .now) (a .out .now) in (
+      omega arith,
+      omega arith,
+      omega arith,
+      omega arith,
+      omega arith,
+      omega arith,
+      (c .before .before .before .before .before .before .take-byte .ensures .1 .fit),
+      λ h. omega arith,
+      c .before .before .before .before .before .before .take-byte .ensures .0
+          ∙ ap (λ (s : State). step s b) (c .before .before .before .before .before .before .before .before .before .before .before .before .before .before .take-span .ensures .0 (l .memory) (l .out)
+          ∙ ap (λ (s : State). feed s (take (e - l .i) (drop (l .i) (a .text .now)))) (l .inv .8)
+          ∙ sym (fed-span s₀ (a .text .now) (l .i) e (omega arith)))
+          ∙ sym (fed-more s₀ (a .text .now) e (omega arith)),
+    )
+
+same-length-10 : tie.Need-same-length-10 Inv-loop μ-loop
+same-length-10 c = omega arith
+
+same-length-11 : tie.Need-same-length-11 Inv-loop μ-loop
+same-length-11 c = omega arith
+
+same-length-12 : tie.Need-same-length-12 Inv-loop μ-loop
+same-length-12 c = omega arith
+
+returns-4 : tie.Need-returns-4 Inv-loop μ-loop
+returns-4 c = let l = c .before .loop in (
+  l .inv .8,
+  (record { filled = omega arith; lined = omega arith; within = omega arith; fit = l .inv .6 }, (l .inv .0, λ h k. omega arith)),
+)
+
+pub chunk-lines-spec : {M : Type 1} → statement M
+chunk-lines-spec =
+    tie.close
+    (tie.spec
+    Inv-loop
+    μ-loop
+    loop-holds
+    same-length
+    same-length-2
+    same-length-3
+    returns
+    sub-if2
+    same-length-4
+    same-length-5
+    same-length-6
+    returns-2
+    find-lf-requires
+    sub-take-span
+    part-take-span-start
+    part-take-span-end
+    take-span-requires
+    same-length-7
+    same-length-8
+    same-length-9
+    returns-3
+    shared-slice-read-take-byte
+    take-byte-requires
+    add-i
+    loop-less
+    loop-again
+    same-length-10
+    same-length-11
+    same-length-12
+    returns-4)

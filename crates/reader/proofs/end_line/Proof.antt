@@ -1,0 +1,47 @@
+-- `end_line` meets its contract: the phase says which file a line is of.
+use Rattle.reader.proofs.ReadingLaws.{run-answered, module-answered}
+use mathlib.Core.Path.{_∙_}
+use borrow.Author.Needs.{needs}
+use Rattle.reader.proofs.end_line.Statement.{statement}
+use Rattle.reader.proofs.end_line.Tie as tie
+use Rattle.reader.proofs.end_line.Reads as reads
+use Rattle.reader.proofs.end_line.Lts as lts
+use Rattle.reader.proofs.end_module_line.Reads as end-module-line-reads
+use Rattle.reader.proofs.end_run_line.Reads as end-run-line-reads
+
+end-run-line-requires : tie.Need-end-run-line-requires
+end-run-line-requires c κs = (c .before .before .before .before .before .before .before .pre)
+
+same-length : tie.Need-same-length
+same-length c = search needs
+
+same-length-2 : tie.Need-same-length-2
+same-length-2 c = search needs
+
+returns : tie.Need-returns
+returns c = ((c .before .before .before .before .end-run-line .ensures .0) ∙ run-answered _ _ (c .before .before .before .before .before .before .before .if1 .taken), (c .before .before .before .before .end-run-line .ensures .1))
+
+end-module-line-requires : tie.Need-end-module-line-requires
+end-module-line-requires c κs = (c .before .before .before .before .before .before .before .pre)
+
+same-length-3 : tie.Need-same-length-3
+same-length-3 c = search needs
+
+same-length-4 : tie.Need-same-length-4
+same-length-4 c = search needs
+
+returns-2 : tie.Need-returns-2
+returns-2 c = ((c .before .before .before .before .end-module-line .ensures .0) ∙ module-answered _ _ (c .before .before .before .before .before .before .before .if1 .left), (c .before .before .before .before .end-module-line .ensures .1))
+
+pub end-line-spec : {M : Type 1} → statement M
+end-line-spec =
+    tie.close
+    (tie.spec
+    end-run-line-requires
+    same-length
+    same-length-2
+    returns
+    end-module-line-requires
+    same-length-3
+    same-length-4
+    returns-2)

@@ -1,0 +1,98 @@
+-- `end_module_line` meets its contract: the line is read and its module put into a fit crate, so 9 does not come (`line-bad`, `line-placed`).
+use Rattle.reader.proofs.ReadingLaws.{line-bad, line-placed}
+use Rattle.reader.specs.Reading.{stateOf}
+use lib.Seq.{length-take-le}
+use mathlib.Core.Path.{sym, _∙_}
+use native.Mathlib.Omega.{arith}
+use borrow.Author.Needs.{needs}
+use Rattle.reader.proofs.end_module_line.Statement.{statement}
+use Rattle.reader.proofs.end_module_line.Tie as tie
+use Rattle.reader.proofs.end_module_line.Reads as reads
+use Rattle.reader.proofs.end_module_line.Lts as lts
+use Rattle.controller.proofs.placing.place.Reads as place-reads
+use Rattle.runfile.proofs.read_module.Reads as read-module-reads
+use Rattle.reader.proofs.refuse.Reads as refuse-reads
+
+slice-aggregate-read-module : tie.Need-slice-aggregate-read-module
+slice-aggregate-read-module c = sym (length-take-le (c .before .before .before .before .args .s .fill) (c .before .before .before .before .args .line .now) (omega arith))
+
+read-module-requires : tie.Need-read-module-requires
+read-module-requires c κs = search needs
+
+enum-known-read : tie.Need-enum-known-read
+enum-known-read c = search needs
+
+refuse-requires : tie.Need-refuse-requires
+refuse-requires c κs = search needs
+
+enum-known-read-2 : tie.Need-enum-known-read-2
+enum-known-read-2 c = search needs
+
+place-requires : tie.Need-place-requires
+place-requires c κs = (c .before .before .before .before .before .before .before .before .before .pre .0 .fit)
+
+enum-known-verdict : tie.Need-enum-known-verdict
+enum-known-verdict c = search needs
+
+refuse-requires-2 : tie.Need-refuse-requires-2
+refuse-requires-2 c κs = search needs
+
+enum-told : tie.Need-enum-told
+enum-told c = search needs
+
+add-t21 : tie.Need-add-t21
+add-t21 c = search needs
+
+same-length : tie.Need-same-length
+same-length c = search needs
+
+returns : tie.Need-returns
+returns c = (
+  (c .before .before .refuse .ensures .0) (c .before .before .before .before .before .before .before .before .before .before .before .before .args .line .now) (c .before .before .before .before .before .before .before .before .before .before .before .before .args .memory .now) 0
+      ∙ line-bad (stateOf (c .before .before .before .before .before .before .before .before .before .before .before .before .args .s) (c .before .before .before .before .before .before .before .before .before .before .before .before .args .line .now) (c .before .before .before .before .before .before .before .before .before .before .before .before .args .memory .now) (c .before .before .before .before .before .before .before .before .before .before .before .before .args .out .now)) _ _ 0 (c .before .before .before .before .before .before .before .before .before .before .before .before .pre .0 .fit) (sym (c .before .before .before .before .before .before .before .read-module .ensures .0) ∙ (c .before .before .before .before .before .read .given .1)),
+  record { filled = omega arith; lined = omega arith; within = omega arith; fit = (c .before .before .before .before .before .before .before .before .before .before .before .before .pre .0 .fit) },
+)
+
+same-length-2 : tie.Need-same-length-2
+same-length-2 c = search needs
+
+same-length-3 : tie.Need-same-length-3
+same-length-3 c = search needs
+
+returns-2 : tie.Need-returns-2
+returns-2 c = (
+  (c .before .before .refuse2 .ensures .0) (c .before .before .before .before .before .before .before .before .before .before .before .before .before .before .before .before .before .before .before .args .line .now) _ 0
+      ∙ line-placed (stateOf (c .before .before .before .before .before .before .before .before .before .before .before .before .before .before .before .before .before .before .before .args .s) (c .before .before .before .before .before .before .before .before .before .before .before .before .before .before .before .before .before .before .before .args .line .now) (c .before .before .before .before .before .before .before .before .before .before .before .before .before .before .before .before .before .before .before .args .memory .now) (c .before .before .before .before .before .before .before .before .before .before .before .before .before .before .before .before .before .before .before .args .out .now)) _ _ _ _ _ (c .before .before .before .before .before .before .before .before .before .before .before .before .before .before .before .before .before .before .before .pre .0 .fit) (sym (c .before .before .before .before .before .before .before .before .before .before .before .before .before .before .read-module .ensures .0) ∙ (c .before .before .before .before .before .before .before .before .before .before .before .before .read2 .given .1)) (c .before .before .before .before .before .before .before .before .before .place .ensures .0) (c .before .before .before .before .before .verdict .given .1),
+  record { filled = omega arith; lined = omega arith; within = omega arith; fit = (c .before .before .before .before .before .before .before .before .before .place .ensures .1) },
+)
+
+same-length-4 : tie.Need-same-length-4
+same-length-4 c = search needs
+
+returns-3 : tie.Need-returns-3
+returns-3 c = (
+  line-placed (stateOf (c .before .before .before .before .before .before .before .before .before .before .before .before .before .before .before .args .s) (c .before .before .before .before .before .before .before .before .before .before .before .before .before .before .before .args .line .now) (c .before .before .before .before .before .before .before .before .before .before .before .before .before .before .before .args .memory .now) (c .before .before .before .before .before .before .before .before .before .before .before .before .before .before .before .args .out .now)) _ _ _ _ _ (c .before .before .before .before .before .before .before .before .before .before .before .before .before .before .before .pre .0 .fit) (sym (c .before .before .before .before .before .before .before .before .before .before .read-module .ensures .0) ∙ (c .before .before .before .before .before .before .before .before .read2 .given .1)) (c .before .before .before .before .before .place .ensures .0) (c .before .enum-told .given .1),
+  record { filled = omega arith; lined = omega arith; within = omega arith; fit = (c .before .before .before .before .before .place .ensures .1) },
+)
+
+pub end-module-line-spec : {M : Type 1} → statement M
+end-module-line-spec =
+    tie.close
+    (tie.spec
+    slice-aggregate-read-module
+    read-module-requires
+    enum-known-read
+    refuse-requires
+    enum-known-read-2
+    place-requires
+    enum-known-verdict
+    refuse-requires-2
+    enum-told
+    add-t21
+    same-length
+    returns
+    same-length-2
+    same-length-3
+    returns-2
+    same-length-4
+    returns-3)

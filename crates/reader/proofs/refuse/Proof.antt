@@ -1,0 +1,28 @@
+-- `refuse` meets its contract.
+use Rattle.reader.proofs.ReadingLaws.{states, put-front, put-within}
+use mathlib.Core.Path.{refl}
+use native.Mathlib.Omega.{arith}
+use borrow.Author.Needs.{needs}
+use Rattle.reader.proofs.refuse.Statement.{statement}
+use Rattle.reader.proofs.refuse.Tie as tie
+use Rattle.reader.proofs.refuse.Reads as reads
+use Rattle.reader.proofs.refuse.Lts as lts
+use Rattle.sheet.proofs.put_crate_refusal.Reads as put-crate-refusal-reads
+
+add-k : tie.Need-add-k
+add-k c = search needs
+
+put-crate-refusal-requires : tie.Need-put-crate-refusal-requires
+put-crate-refusal-requires c κs = search needs
+
+same-length : tie.Need-same-length
+same-length c = search needs
+
+returns : tie.Need-returns
+returns c = (
+  λ l m n. states refl refl refl refl refl (put-front (c .before .before .put-crate-refusal .ensures) (omega arith)),
+  (refl, put-within (c .before .before .put-crate-refusal .ensures) (omega arith)),
+)
+
+pub refuse-spec : {M : Type 1} → statement M
+refuse-spec = tie.close (tie.spec add-k put-crate-refusal-requires same-length returns)

@@ -1,0 +1,2 @@
+-- The laws of `sheet`.
+pub mod Room

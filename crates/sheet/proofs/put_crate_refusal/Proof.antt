@@ -1,0 +1,69 @@
+-- `put_crate_refusal` meets its contract: two fields and LF, put one after the other.
+use Prim.Native.Nat.{ℕ}
+use mathlib.Core.List.{_++_}
+use mathlib.Core.Path.{ap}
+use native.Mathlib.Omega.{arith}
+use borrow.Author.Needs.{needs}
+use Rattle.sheet.proofs.Room.{after-field, of-text}
+use Rattle.sheet.specs.Answers.{crateText}
+use Rattle.text.proofs.Paste.{put-then}
+use Rattle.text.proofs.Decimal.{length-ten}
+use Rattle.text.specs.Text.{bytes, field}
+use Rattle.sheet.proofs.put_crate_refusal.Statement.{statement}
+use Rattle.sheet.proofs.put_crate_refusal.Tie as tie
+
+slice-aggregate-put-field : tie.Need-slice-aggregate-put-field
+slice-aggregate-put-field c = search needs
+
+put-field-requires : tie.Need-put-field-requires
+put-field-requires c κs = omega (arith, length-ten (c .before .before .before .args .k))
+
+slice-aggregate-put-field-2 : tie.Need-slice-aggregate-put-field-2
+slice-aggregate-put-field-2 c = search needs
+
+refusal-number-requires : tie.Need-refusal-number-requires
+refusal-number-requires c κs = search needs
+
+put-field-requires-2 : tie.Need-put-field-requires-2
+put-field-requires-2 c κs = omega (
+  arith,
+  after-field (bytes "crate=") (c .before .before .before .before .before .before .before .before .before .args .k)
+      (c .before .before .before .before .before .put-field .ensures),
+  length-ten (c .refusal-number .result),
+)
+
+slice-aggregate-put-bytes : tie.Need-slice-aggregate-put-bytes
+slice-aggregate-put-bytes c = search needs
+
+put-bytes-requires : tie.Need-put-bytes-requires
+put-bytes-requires c κs = omega (
+  arith,
+  after-field (bytes "crate=")
+      (c .before .before .before .before .before .before .before .before .before .before .before .before .before .before .args .k)
+      (c .before .before .before .before .before .before .before .before .before .before .put-field .ensures),
+  after-field (bytes " refused=") (c .before .before .before .before .before .refusal-number .result)
+      (c .before .before .before .before .put-field2 .ensures),
+)
+
+same-length : tie.Need-same-length
+same-length c = search needs
+
+returns : tie.Need-returns
+unfolding crateText
+returns c = of-text (ap
+    (λ (n : ℕ). field "crate="
+    (c .before .before .before .before .before .before .before .before .before .before .before .before .before .before .before .before .before .args .k) ++ field " refused=" n ++ bytes "\n") (c .before .before .before .before .before .before .before .before .refusal-number .ensures)) (put-then (put-then (c .before .before .before .before .before .before .before .before .before .before .before .before .before .put-field .ensures) (c .before .before .before .before .before .before .before .put-field2 .ensures) (omega arith)) (c .before .before .put-bytes .ensures) (omega arith))
+
+pub put-crate-refusal-spec : {M : Type 1} → statement M
+put-crate-refusal-spec =
+    tie.close
+    (tie.spec
+    slice-aggregate-put-field
+    put-field-requires
+    slice-aggregate-put-field-2
+    refusal-number-requires
+    put-field-requires-2
+    slice-aggregate-put-bytes
+    put-bytes-requires
+    same-length
+    returns)

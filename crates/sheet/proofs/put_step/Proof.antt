@@ -1,0 +1,50 @@
+-- `put_step` meets its contract: the step's line, then the lines of its words.
+use mathlib.Core.Path.{sym, ap}
+use native.Mathlib.Omega.{arith}
+use borrow.Author.Needs.{needs}
+use lib.Seq.{length-take-le}
+use Rattle.sheet.proofs.Room.{put-end, line-short, of-text}
+use Rattle.sheet.specs.Answers.{wordLines, stepText}
+use Rattle.text.proofs.Paste.{put-then}
+use Rattle.sheet.proofs.put_step.Statement.{statement}
+use Rattle.sheet.proofs.put_step.Tie as tie
+
+put-line-requires : tie.Need-put-line-requires
+put-line-requires c κs = search needs
+
+count-stored-requires : tie.Need-count-stored-requires
+count-stored-requires c κs = search needs
+
+slice-aggregate-put-words : tie.Need-slice-aggregate-put-words
+slice-aggregate-put-words c = sym (length-take-le _ _ (c .before .before .count-stored .ensures .1))
+
+put-words-requires : tie.Need-put-words-requires
+put-words-requires c κs = omega (
+  arith,
+  put-end 66 (c .before .before .before .before .before .put-line .ensures)
+      (line-short (c .before .before .before .before .before .before .before .before .before .args .k)
+      (c .before .before .before .before .before .before .before .before .before .args .answer)),
+  length-take-le (c .before .before .count-stored .result)
+      (c .before .before .before .before .before .before .before .before .before .args .buffer .now)
+      (c .before .before .count-stored .ensures .1),
+)
+
+same-length : tie.Need-same-length
+same-length c = search needs
+
+returns : tie.Need-returns
+unfolding stepText
+returns c = put-then (c .before .before .before .before .before .before .before .before .put-line .ensures)
+    (of-text (ap wordLines (c .before .before .before .before .before .count-stored .ensures .0)) (c .before .before .put-words .ensures))
+    (omega arith)
+
+pub put-step-spec : {M : Type 1} → statement M
+put-step-spec =
+    tie.close
+    (tie.spec
+    put-line-requires
+    count-stored-requires
+    slice-aggregate-put-words
+    put-words-requires
+    same-length
+    returns)

@@ -1,0 +1,85 @@
+/* A scaler with two registers in station 3, rehearsed step by step, then as a list. From the repository's root:
+ *
+ *   rt staticlib capi
+ *   gcc -std=c99 -Wall -Wextra -I include examples/c/rehearse_once.c target/staticlib/libcapi.a -o target/rehearse_once
+ *   target/rehearse_once
+ */
+#include <inttypes.h>
+#include <stdio.h>
+#include <string.h>
+
+#include "pagontxu.h"
+
+/* Prints an answer as the sheet of a rehearsal does, without the step's number. */
+static void print_answer(const uint32_t *answer, const uint32_t *buffer)
+{
+    switch (answer[0]) {
+    case PAGONTXU_REFUSED:
+        printf("refused=%" PRIu32 "\n", answer[1]);
+        break;
+    case PAGONTXU_REPLIED:
+        printf("x=%" PRIu32 " q=%" PRIu32 " r=%" PRIu32 "\n", answer[1], answer[2], answer[3]);
+        break;
+    case PAGONTXU_TAKEN:
+        printf("taken=%" PRIu32 "\n", answer[1]);
+        break;
+    case PAGONTXU_DONE:
+        printf("done=%" PRIu32 "\n", answer[1]);
+        break;
+    case PAGONTXU_LOOKED:
+        printf("l=%" PRIu32 " count=%" PRIu32 " first=%" PRIu32 "\n", answer[1], answer[2], answer[3]);
+        break;
+    case PAGONTXU_TRANSFERRED:
+        printf("end=%" PRIu32 " words=%" PRIu32 " cycles=%" PRIu32 "\n", answer[1], answer[2], answer[3]);
+        for (uint32_t i = 0; i < answer[2]; i++)
+            printf("word=%" PRIu32 "\n", buffer[i]);
+        break;
+    }
+}
+
+/* A crate with the scaler in it. */
+static uint32_t set_up(uint32_t *memory)
+{
+    const char *line = "n=3 kind=1 r=2";
+    memset(memory, 0, PAGONTXU_MEMORY_WORDS * sizeof memory[0]);
+    return pagontxu_crate_line(memory, PAGONTXU_MEMORY_WORDS, 0, (const uint8_t *)line, strlen(line));
+}
+
+int main(void)
+{
+    static const uint32_t steps[][PAGONTXU_STEP_WORDS] = {
+        {2, 3, 0, 16777215, 0, 0}, /* front n=3 a=0 v=16777215: the register is full */
+        {1, 3, 0, 26, 0, 0},       /* naf n=3 a=0 f=26: mask bit 0 is set */
+        {1, 3, 0, 25, 0, 0},       /* naf n=3 a=0 f=25: one more, the register goes to 0 and raises its LAM */
+        {6, 0, 0, 0, 0, 0},        /* lam */
+        {2, 3, 1, 7, 0, 0},        /* front n=3 a=1 v=7 */
+        {7, 3, 0, 2, 3, 8},        /* scan n=3 a=0 f=2 to=3 limit=8 */
+    };
+    enum { COUNT = sizeof steps / sizeof steps[0] };
+    static uint32_t memory[PAGONTXU_MEMORY_WORDS];
+    static uint32_t buffer[PAGONTXU_BUFFER_WORDS];
+    uint32_t answer[PAGONTXU_ANSWER_WORDS];
+
+    if (set_up(memory) != PAGONTXU_FINE)
+        return 1;
+    for (size_t k = 0; k < COUNT; k++) {
+        pagontxu_step(memory, PAGONTXU_MEMORY_WORDS, steps[k], PAGONTXU_STEP_WORDS, answer, PAGONTXU_ANSWER_WORDS, buffer, PAGONTXU_BUFFER_WORDS);
+        print_answer(answer, buffer);
+    }
+
+    /* A run line: there is no station 24 for modules. */
+    const char *line = "op=naf n=24 a=0 f=0 w=0";
+    pagontxu_run_line(memory, PAGONTXU_MEMORY_WORDS, (const uint8_t *)line, strlen(line), answer, PAGONTXU_ANSWER_WORDS, buffer, PAGONTXU_BUFFER_WORDS);
+    print_answer(answer, buffer);
+
+    /* The same steps as a list on a second crate: it ends as the first did. */
+    static uint32_t second[PAGONTXU_MEMORY_WORDS];
+    static uint32_t answers[COUNT * PAGONTXU_ANSWER_WORDS];
+    static uint32_t buffers[COUNT * PAGONTXU_BUFFER_WORDS];
+    if (set_up(second) != PAGONTXU_FINE)
+        return 1;
+    uint32_t number = pagontxu_list(second, PAGONTXU_MEMORY_WORDS, COUNT, steps[0], COUNT * PAGONTXU_STEP_WORDS, answers,
+                                    COUNT * PAGONTXU_ANSWER_WORDS, buffers, COUNT * PAGONTXU_BUFFER_WORDS);
+    printf("list=%" PRIu32 " alike=%d\n", number, memcmp(memory, second, sizeof memory) == 0);
+    return 0;
+}

@@ -1,0 +1,117 @@
+/* pagontxu.h: a rehearsal of a CAMAC crate, for programs in C, Fortran or Python.
+ *
+ * The rules are those of document 01, "The CAMAC rehearsal crate". Each function is proved to return and to leave what its definition in
+ * crates/capi/specs/Calls.antt says, for any contents and any lengths of the arrays that it is lent.
+ *
+ * Build the archive with `rt staticlib capi` and link target/staticlib/libcapi.a (x86-64 Linux). The library keeps no state, allocates nothing
+ * and asks of the C library no more than memset: two threads may call it at once on different arrays.
+ *
+ * What the caller sees to:
+ *   - each pointer is not NULL, also where its length is 0, and points to at least as many words (or bytes) as the length says;
+ *   - words are aligned as a uint32_t;
+ *   - an array that a function may change shares no word with another array of the same call;
+ *   - nothing else writes to the arrays while the call runs.
+ * Lengths of memory, steps, answers and buffers are in words of 32 bits, those of lines in bytes.
+ *
+ * THE CRATE MEMORY: 768 words, 24 blocks of 32. All 0 is a fit, empty crate with Inhibit off: start from that.
+ *   block 0: word 0 is Inhibit I (0 or 1), the rest 0
+ *   block N, words 32 N to 32 N + 31, is station N, 1 to 23:
+ *     word 0        kind: 0 empty, 1 scaler, 2 output register, 3 input register, 4 buffer memory, 5 up-down counter
+ *     word 1        r, the register count: 1 to 16; of a buffer memory 1; of an empty station 0
+ *     word 2        LAM status: bit A belongs to source A, bit 0 is the lowest
+ *     word 3        LAM mask
+ *     word 4        head, 0 to 15, of a buffer memory, else 0
+ *     word 5        fill, 0 to 16, of a buffer memory, else 0
+ *     words 6 to 15 0
+ *     words 16 to 31  registers 0 to 15, 24 bits each; those at r and above are 0, but for a buffer memory
+ *   A memory that is not so, or is not 768 words long, is unfit: refusal 9.
+ *
+ * A STEP: six words. Word 0 says which step it is; its fields follow in the order of the run file's line; the words after them are not looked at.
+ *   1 naf     n a f w             a command: station, subaddress, function, write word
+ *   2 front   n a v               a front event
+ *   3 z                           Initialize
+ *   4 c                           Clear
+ *   5 i       v                   Inhibit to 0 or 1
+ *   6 lam                         the Look-at-Me reading
+ *   7 scan    n a f to limit      Address Scan
+ *   8 repeat  n a f limit tries   Repeat
+ *   9 stop    n a f limit         Stop
+ *   any other word 0 is garbled: refusal 1.
+ *
+ * AN ANSWER: four words.
+ *   0 refused               the refusal number, 0, 0
+ *   1 a command             X, Q, R
+ *   2 a front event         taken (1 or 0), 0, 0
+ *   3 Z, C or I             1, 0, 0
+ *   4 Look-at-Me reading    L, count, first
+ *   5 a transfer            end, words, cycles; the words are in the buffer, which keeps what it held past them
+ *
+ * A REFUSAL changes nothing in the memory or the buffers. Each function returns 0, or the number of its refusal:
+ */
+#ifndef PAGONTXU_H
+#define PAGONTXU_H
+
+#include <stddef.h>
+#include <stdint.h>
+
+#ifdef __cplusplus
+extern "C" {
+#endif
+
+enum pagontxu_refusal {
+    PAGONTXU_FINE = 0,
+    PAGONTXU_GARBLED = 1,             /* a line, or a step's word 0, in no form of 01 */
+    PAGONTXU_NO_SUCH_STATION = 2,     /* N outside 1 to 23 */
+    PAGONTXU_NO_SUCH_SUBADDRESS = 3,  /* A above 15 */
+    PAGONTXU_NO_SUCH_FUNCTION = 4,    /* F above 31; in a transfer, not 0, 2, 3 */
+    PAGONTXU_OVERWIDE_WORD = 5,       /* w or v above 16777215; for I, v above 1 */
+    PAGONTXU_CROSSED_RANGE = 6,       /* `to` below N or above 23 */
+    PAGONTXU_BAD_LENGTH = 7,          /* limit outside 1 to 512, tries outside 1 to 4096 */
+    PAGONTXU_SHORT_BUFFER = 8,        /* fewer than limit words of buffer; or a step, answer, or list array with too few words */
+    PAGONTXU_UNFIT_CRATE = 9,         /* the memory is not fit; comes before all else */
+    PAGONTXU_BAD_MODULE = 10,         /* a crate line's kind outside 1 to 5, or r not of its kind */
+    PAGONTXU_OUT_OF_ORDER = 11        /* a crate line's station not above that of the line before */
+};
+
+enum pagontxu_answer {
+    PAGONTXU_REFUSED = 0,
+    PAGONTXU_REPLIED = 1,
+    PAGONTXU_TAKEN = 2,
+    PAGONTXU_DONE = 3,
+    PAGONTXU_LOOKED = 4,
+    PAGONTXU_TRANSFERRED = 5
+};
+
+enum {
+    PAGONTXU_MEMORY_WORDS = 768,
+    PAGONTXU_BLOCK_WORDS = 32,
+    PAGONTXU_STEP_WORDS = 6,
+    PAGONTXU_ANSWER_WORDS = 4,
+    PAGONTXU_BUFFER_WORDS = 512       /* of each step of a list */
+};
+
+/* One line of a crate file, `n= kind= r=`, without its LF: puts a module into the memory. `previous` is the station of the line before, 0 before the
+ * first. Refusals in this order: 9, 1, 2, 11, 10. The module starts with 0 in its registers, whatever stood in the station. */
+uint32_t pagontxu_crate_line(uint32_t *memory, size_t memory_len, uint32_t previous, const uint8_t *line, size_t line_len);
+
+/* One line of a run file, as `op=naf n=3 a=0 f=2 w=0`, without its LF. The answer goes into the first four words of `answer`, a refusal too; words past
+ * them keep their contents. A transfer stores its words in `buffer`; other steps leave it as it is, and its length may be 0.
+ * Refusals in this order: 9; 8 where `answer` has fewer than four words, which then keep their contents; then the line's own, 8 for a short buffer last. */
+uint32_t pagontxu_run_line(uint32_t *memory, size_t memory_len, const uint8_t *line, size_t line_len, uint32_t *answer, size_t answer_len,
+                           uint32_t *buffer, size_t buffer_len);
+
+/* One step of six words; words of `step` past them are not looked at. As pagontxu_run_line; 8, after 9, also where `step` has fewer than six words. */
+uint32_t pagontxu_step(uint32_t *memory, size_t memory_len, const uint32_t *step, size_t step_len, uint32_t *answer, size_t answer_len,
+                       uint32_t *buffer, size_t buffer_len);
+
+/* A list of `count` steps, done in turn. Step k, from 0, has words 6 k to 6 k + 5 of `steps`, 4 k to 4 k + 3 of `answers` and 512 k to 512 k + 511 of
+ * `buffers`; words past those of the last step keep their contents. Returns 9 or 8 where the memory is not fit or too few words are lent: then nothing
+ * changes, the answers included. Else it returns 0; a step that is refused says so in its answer, and the run goes on. */
+uint32_t pagontxu_list(uint32_t *memory, size_t memory_len, size_t count, const uint32_t *steps, size_t steps_len, uint32_t *answers,
+                       size_t answers_len, uint32_t *buffers, size_t buffers_len);
+
+#ifdef __cplusplus
+}
+#endif
+
+#endif
