@@ -93,7 +93,7 @@ module _ (s : State) (e : opened s ≡ false) where
   unfolding step
   step-shut b = ap (λ (o : Bool). cond o (cond (eqb b 10) (answered s (s .part)) (kept s b)) s) e
 
-  closed-shut : closed s ≡ s
+  pub closed-shut : closed s ≡ s
   unfolding closed
   closed-shut = ap (λ (o : Bool). cond (o && ltb 0 (length (s .part))) (answered s (s .part)) s) e
 

@@ -1,0 +1,2 @@
+-- The laws of `shell`.
+pub mod HandedLaws

@@ -1,0 +1,36 @@
+// Runs the 66 scenarios of the current folder, NN.run on the crate of NN.crate, and prints 'case=NN' before each sheet. A file that is not there is missing on
+// purpose.
+use libc::STDOUT_FILENO;
+
+// The number of the last scenario.
+const CASES: u8 = 66;
+
+// Runs scenario k.
+fn scenario(k: u8) {
+    let tens = 48 + k / 10 % 10;
+    let ones = 48 + k % 10;
+    let crate_path = [tens, ones, b'.', b'c', b'r', b'a', b't', b'e'];
+    let run_path = [tens, ones, b'.', b'r', b'u', b'n'];
+    let head = [b'c', b'a', b's', b'e', b'=', tens, ones, b'\n'];
+    io::write_all(STDOUT_FILENO, &head);
+    let mut text = io::large_buffer();
+    let mut line = [0u8; 81];
+    let mut memory = [0u32; 768];
+    let mut out = io::large_buffer();
+    shell::rehearse(
+        &crate_path,
+        &run_path,
+        &mut text,
+        &mut line,
+        &mut memory,
+        &mut out,
+    );
+}
+
+fn main() {
+    let mut k: u8 = 1;
+    while k <= CASES {
+        scenario(k);
+        k += 1;
+    }
+}
