@@ -1,7 +1,7 @@
 // The CAMAC rehearsal in plain Rust, written from document 01 and the readings of it alone.
 // It shares no code with the proved program, so that the two can be compared.
 // Build: rustc -O reference.rs. It reads crate.txt and run.txt in the current
-// folder and prints the sheet.
+// folder and prints the sheet. library.rs uses its crate, steps and lines too.
 
 use std::collections::VecDeque;
 use std::io::{self, Write};
@@ -12,21 +12,23 @@ const LONGEST_LINE: usize = 80;
 const MODULUS: u32 = 1 << 24;
 const WORD_MAX: u32 = MODULUS - 1;
 const BUFFER_PLACES: usize = 16;
+const MOST_WORDS: usize = 512; // the highest limit of a transfer
 
-const GARBLED: u32 = 1;
+pub const GARBLED: u32 = 1;
 const NO_SUCH_STATION: u32 = 2;
 const NO_SUCH_SUBADDRESS: u32 = 3;
 const NO_SUCH_FUNCTION: u32 = 4;
 const OVERWIDE_WORD: u32 = 5;
 const CROSSED_RANGE: u32 = 6;
 const BAD_LENGTH: u32 = 7;
+pub const SHORT_BUFFER: u32 = 8;
 const BAD_MODULE: u32 = 10;
 const OUT_OF_ORDER: u32 = 11;
 
 // ---- modules ----
 
 #[derive(Clone, Copy, PartialEq)]
-enum Kind {
+pub enum Kind {
     Empty,
     Scaler,
     Output,
@@ -36,26 +38,27 @@ enum Kind {
 }
 
 #[derive(Clone)]
-struct Module {
-    kind: Kind,
-    r: u32,
-    status: u32,
-    mask: u32,
-    registers: [u32; 16],
-    // The words of a buffer memory, the oldest first. Head is never printed, so none is kept.
-    words: VecDeque<u32>,
+pub struct Module {
+    pub kind: Kind,
+    pub r: u32,
+    pub status: u32,
+    pub mask: u32,
+    pub registers: [u32; 16], // of a buffer memory not used
+    // The words of a buffer memory, the oldest first, and the place of the oldest. Head is never printed.
+    pub words: VecDeque<u32>,
+    pub head: u32,
 }
 
-struct Crate {
-    inhibit: bool,
-    stations: Vec<Module>, // place n is station n; place 0 is not used
+pub struct Crate {
+    pub inhibit: bool,
+    pub stations: Vec<Module>, // place n is station n; place 0 is not used
 }
 
 #[derive(Clone, Copy)]
-struct Reply {
-    x: u32,
-    q: u32,
-    r: u32,
+pub struct Reply {
+    pub x: u32,
+    pub q: u32,
+    pub r: u32,
 }
 
 const NOT_ACCEPTED: Reply = Reply { x: 0, q: 0, r: 0 };
@@ -83,12 +86,12 @@ fn signed(word: u32) -> i64 {
 }
 
 impl Module {
-    fn empty() -> Module {
+    pub fn empty() -> Module {
         Module::new(Kind::Empty, 0)
     }
 
-    fn new(kind: Kind, r: u32) -> Module {
-        Module { kind, r, status: 0, mask: 0, registers: [0; 16], words: VecDeque::new() }
+    pub fn new(kind: Kind, r: u32) -> Module {
+        Module { kind, r, status: 0, mask: 0, registers: [0; 16], words: VecDeque::new(), head: 0 }
     }
 
     fn sources(&self) -> u32 {
@@ -144,6 +147,7 @@ impl Module {
         }
         if f == 9 {
             self.words.clear();
+            self.head = 0;
             self.status &= !1;
             return DONE;
         }
@@ -156,6 +160,7 @@ impl Module {
         }
         if f == 2 {
             self.words.pop_front();
+            self.head = (self.head + 1) % BUFFER_PLACES as u32;
             if self.words.is_empty() {
                 self.status &= !1;
             }
@@ -277,13 +282,13 @@ impl Module {
 // ---- the crate ----
 
 // The answer of a transfer; its words are in the list handed in.
-struct Transfer {
-    end: u32,
-    cycles: u32,
+pub struct Transfer {
+    pub end: u32,
+    pub cycles: u32,
 }
 
 impl Crate {
-    fn new() -> Crate {
+    pub fn new() -> Crate {
         Crate { inhibit: false, stations: vec![Module::empty(); STATIONS as usize + 1] }
     }
 
@@ -407,11 +412,95 @@ fn judge_limit(limit: u32) -> Result<(), u32> {
     judge(limit < 1 || limit > 512, BAD_LENGTH)
 }
 
+fn judge_lent(lent: usize, limit: u32) -> Result<(), u32> {
+    judge(lent < limit as usize, SHORT_BUFFER)
+}
+
 // The first three fields of every transfer.
 fn judge_transfer(n: u32, a: u32, f: u32) -> Result<(), u32> {
     judge_station(n)?;
     judge_subaddress(a)?;
     judge(f != 0 && f != 2 && f != 3, NO_SUCH_FUNCTION)
+}
+
+// ---- steps ----
+
+// A step, with its fields in the order of its line.
+#[derive(Clone, Copy)]
+pub enum Step {
+    Naf([u32; 4]),
+    Front([u32; 3]),
+    Z,
+    C,
+    I([u32; 1]),
+    Lam,
+    Scan([u32; 5]),
+    Repeat([u32; 5]),
+    Stop([u32; 4]),
+}
+
+pub enum Answer {
+    Replied(Reply),
+    Taken(bool),
+    Done,
+    Looked(u32, u32, u32),
+    Transferred(Transfer),
+}
+
+// One step on a fit crate, with `lent` words of buffer; `words` is empty before it. A refused one changes nothing.
+pub fn run_step(memory: &mut Crate, step: Step, lent: usize, words: &mut Vec<u32>) -> Result<Answer, u32> {
+    match step {
+        Step::Naf([n, a, f, w]) => {
+            judge_station(n)?;
+            judge_subaddress(a)?;
+            judge(f > 31, NO_SUCH_FUNCTION)?;
+            judge_word(w)?;
+            Ok(Answer::Replied(memory.command(n, a, f, w)))
+        }
+        Step::Front([n, a, v]) => {
+            judge_station(n)?;
+            judge_subaddress(a)?;
+            judge_word(v)?;
+            Ok(Answer::Taken(memory.front(n, a, v)))
+        }
+        Step::Z => {
+            memory.initialize();
+            Ok(Answer::Done)
+        }
+        Step::C => {
+            memory.clear();
+            Ok(Answer::Done)
+        }
+        Step::I([v]) => {
+            judge(v > 1, OVERWIDE_WORD)?;
+            memory.inhibit = v == 1;
+            Ok(Answer::Done)
+        }
+        Step::Lam => {
+            let (l, count, first) = memory.look_at_me();
+            Ok(Answer::Looked(l, count, first))
+        }
+        Step::Scan([n, a, f, to, limit]) => {
+            judge_transfer(n, a, f)?;
+            judge(to < n || to > STATIONS, CROSSED_RANGE)?;
+            judge_limit(limit)?;
+            judge_lent(lent, limit)?;
+            Ok(Answer::Transferred(memory.scan(n, a, f, to, limit, words)))
+        }
+        Step::Repeat([n, a, f, limit, tries]) => {
+            judge_transfer(n, a, f)?;
+            judge_limit(limit)?;
+            judge(tries < 1 || tries > 4096, BAD_LENGTH)?;
+            judge_lent(lent, limit)?;
+            Ok(Answer::Transferred(memory.repeat(n, a, f, limit, tries, words)))
+        }
+        Step::Stop([n, a, f, limit]) => {
+            judge_transfer(n, a, f)?;
+            judge_limit(limit)?;
+            judge_lent(lent, limit)?;
+            Ok(Answer::Transferred(memory.stop(n, a, f, limit, words)))
+        }
+    }
 }
 
 // ---- lines ----
@@ -452,7 +541,7 @@ fn fields<const COUNT: usize>(line: &[u8], head: &str, names: [&str; COUNT]) -> 
 }
 
 // One line of crate.txt, after a line for station `previous` (0 before the first).
-fn crate_line(line: &[u8], previous: u32) -> Result<(u32, Module), u32> {
+pub fn crate_line(line: &[u8], previous: u32) -> Result<(u32, Module), u32> {
     let [n, kind, r] = fields(line, "", ["n=", " kind=", " r="]).ok_or(GARBLED)?;
     judge_station(n)?;
     judge(n <= previous, OUT_OF_ORDER)?;
@@ -468,58 +557,47 @@ fn crate_line(line: &[u8], previous: u32) -> Result<(u32, Module), u32> {
     Ok((n, Module::new(kind, r)))
 }
 
-// One line of run.txt: the rest of its sheet line after `step=K `, and the words of a transfer.
-fn run_line(memory: &mut Crate, line: &[u8], words: &mut Vec<u32>) -> Result<String, u32> {
-    if let Some([n, a, f, w]) = fields(line, "op=naf", [" n=", " a=", " f=", " w="]) {
-        judge_station(n)?;
-        judge_subaddress(a)?;
-        judge(f > 31, NO_SUCH_FUNCTION)?;
-        judge_word(w)?;
-        let reply = memory.command(n, a, f, w);
-        return Ok(format!("x={} q={} r={}", reply.x, reply.q, reply.r));
+// One line of run.txt; none when it is garbled.
+pub fn run_line(line: &[u8]) -> Option<Step> {
+    if let Some(fields) = fields(line, "op=naf", [" n=", " a=", " f=", " w="]) {
+        return Some(Step::Naf(fields));
     }
-    if let Some([n, a, v]) = fields(line, "op=front", [" n=", " a=", " v="]) {
-        judge_station(n)?;
-        judge_subaddress(a)?;
-        judge_word(v)?;
-        let taken = memory.front(n, a, v);
-        return Ok(format!("taken={}", taken as u32));
+    if let Some(fields) = fields(line, "op=front", [" n=", " a=", " v="]) {
+        return Some(Step::Front(fields));
     }
     if fields(line, "op=z", []).is_some() {
-        memory.initialize();
-        return Ok("done=1".to_string());
+        return Some(Step::Z);
     }
     if fields(line, "op=c", []).is_some() {
-        memory.clear();
-        return Ok("done=1".to_string());
+        return Some(Step::C);
     }
-    if let Some([v]) = fields(line, "op=i", [" v="]) {
-        judge(v > 1, OVERWIDE_WORD)?;
-        memory.inhibit = v == 1;
-        return Ok("done=1".to_string());
+    if let Some(fields) = fields(line, "op=i", [" v="]) {
+        return Some(Step::I(fields));
     }
     if fields(line, "op=lam", []).is_some() {
-        let (l, count, first) = memory.look_at_me();
-        return Ok(format!("l={} count={} first={}", l, count, first));
+        return Some(Step::Lam);
     }
-    let transfer = if let Some([n, a, f, to, limit]) = fields(line, "op=scan", [" n=", " a=", " f=", " to=", " limit="]) {
-        judge_transfer(n, a, f)?;
-        judge(to < n || to > STATIONS, CROSSED_RANGE)?;
-        judge_limit(limit)?;
-        memory.scan(n, a, f, to, limit, words)
-    } else if let Some([n, a, f, limit, tries]) = fields(line, "op=repeat", [" n=", " a=", " f=", " limit=", " tries="]) {
-        judge_transfer(n, a, f)?;
-        judge_limit(limit)?;
-        judge(tries < 1 || tries > 4096, BAD_LENGTH)?;
-        memory.repeat(n, a, f, limit, tries, words)
-    } else if let Some([n, a, f, limit]) = fields(line, "op=stop", [" n=", " a=", " f=", " limit="]) {
-        judge_transfer(n, a, f)?;
-        judge_limit(limit)?;
-        memory.stop(n, a, f, limit, words)
-    } else {
-        return Err(GARBLED);
-    };
-    Ok(format!("end={} words={} cycles={}", transfer.end, words.len(), transfer.cycles))
+    if let Some(fields) = fields(line, "op=scan", [" n=", " a=", " f=", " to=", " limit="]) {
+        return Some(Step::Scan(fields));
+    }
+    if let Some(fields) = fields(line, "op=repeat", [" n=", " a=", " f=", " limit=", " tries="]) {
+        return Some(Step::Repeat(fields));
+    }
+    if let Some(fields) = fields(line, "op=stop", [" n=", " a=", " f=", " limit="]) {
+        return Some(Step::Stop(fields));
+    }
+    None
+}
+
+// The rest of an answer's sheet line after `step=K `.
+fn text(answer: &Answer, words: usize) -> String {
+    match answer {
+        Answer::Replied(reply) => format!("x={} q={} r={}", reply.x, reply.q, reply.r),
+        Answer::Taken(taken) => format!("taken={}", *taken as u32),
+        Answer::Done => "done=1".to_string(),
+        Answer::Looked(l, count, first) => format!("l={} count={} first={}", l, count, first),
+        Answer::Transferred(transfer) => format!("end={} words={} cycles={}", transfer.end, words, transfer.cycles),
+    }
 }
 
 // ---- the program ----
@@ -553,11 +631,15 @@ fn main() -> io::Result<()> {
             }
         }
     }
-    let mut words = Vec::with_capacity(512);
+    let mut words = Vec::with_capacity(MOST_WORDS);
     for (place, line) in lines(&read_file("run.txt")).enumerate() {
         words.clear();
-        match run_line(&mut memory, line, &mut words) {
-            Ok(answer) => writeln!(sheet, "step={} {}", place + 1, answer)?,
+        let answer = match run_line(line) {
+            Some(step) => run_step(&mut memory, step, MOST_WORDS, &mut words),
+            None => Err(GARBLED),
+        };
+        match answer {
+            Ok(answer) => writeln!(sheet, "step={} {}", place + 1, text(&answer, words.len()))?,
             Err(number) => writeln!(sheet, "step={} refused={}", place + 1, number)?,
         }
         for word in &words {

@@ -153,7 +153,7 @@ fn take_byte(s: Reader, b: u8, line: &mut [u8], memory: &mut [u32], out: &mut [u
 }
 
 // The index of the next LF of text from index from on, or the length of text where there is none.
-fn find_lf(text: &[u8], from: usize) -> usize
+pub fn find_lf(text: &[u8], from: usize) -> usize
     requires { ⌜ from ≤ length (now text) ⌝ }
     ensures { λ r. ⌜ NextLf (now (text .entry)) from r ⌝ }
 {

@@ -1,0 +1,879 @@
+// Calls the library through its C functions on random arrays, and compares each call with the
+// crate of reference.rs: the number returned, and every word of the memory, answers and buffers.
+//   library SEED COUNT
+// makes COUNT calls, the same ones for the same seed. Ends with 0 when none differs, with 1 at the
+// first that does, after printing it; 2 means that the two numbers were not given.
+// What the calls have to do is written from document 01, include/pagontxu.h and docs/DECISIONS.md.
+
+#[allow(dead_code)]
+#[path = "reference.rs"]
+mod reference;
+
+use reference::{Answer, Crate, Kind, Module, Step, GARBLED, SHORT_BUFFER};
+use std::fmt::Debug;
+
+const UNFIT_CRATE: u32 = 9;
+const MEMORY: usize = 768;
+const BLOCK: usize = 32;
+const STEP: usize = 6;
+const ANSWER: usize = 4;
+const BUFFER: usize = 512; // of each step of a list
+const WORD_MAX: u32 = 0xff_ffff;
+
+extern "C" {
+    fn pagontxu_crate_line(memory: *mut u32, memory_len: usize, previous: u32, line: *const u8, line_len: usize) -> u32;
+    fn pagontxu_run_line(
+        memory: *mut u32, memory_len: usize, line: *const u8, line_len: usize, answer: *mut u32, answer_len: usize,
+        buffer: *mut u32, buffer_len: usize,
+    ) -> u32;
+    fn pagontxu_step(
+        memory: *mut u32, memory_len: usize, step: *const u32, step_len: usize, answer: *mut u32, answer_len: usize,
+        buffer: *mut u32, buffer_len: usize,
+    ) -> u32;
+    fn pagontxu_list(
+        memory: *mut u32, memory_len: usize, count: usize, steps: *const u32, steps_len: usize, answers: *mut u32,
+        answers_len: usize, buffers: *mut u32, buffers_len: usize,
+    ) -> u32;
+}
+
+// ---- chance ----
+
+struct Chance(u64);
+
+impl Chance {
+    // splitmix64
+    fn next(&mut self) -> u64 {
+        self.0 = self.0.wrapping_add(0x9e37_79b9_7f4a_7c15);
+        let mut z = self.0;
+        z = (z ^ (z >> 30)).wrapping_mul(0xbf58_476d_1ce4_e5b9);
+        z = (z ^ (z >> 27)).wrapping_mul(0x94d0_49bb_1331_11eb);
+        z ^ (z >> 31)
+    }
+
+    fn word(&mut self) -> u32 {
+        (self.next() >> 32) as u32
+    }
+
+    // A number below `bound`.
+    fn below(&mut self, bound: usize) -> usize {
+        (self.next() >> 11) as usize % bound
+    }
+
+    // A number from `low` to `high`, both included.
+    fn from(&mut self, low: u32, high: u32) -> u32 {
+        low + self.below((high - low + 1) as usize) as u32
+    }
+
+    // True `percent` times in a hundred.
+    fn percent(&mut self, percent: usize) -> bool {
+        self.below(100) < percent
+    }
+
+    fn pick<T: Copy>(&mut self, list: &[T]) -> T {
+        list[self.below(list.len())]
+    }
+}
+
+// ---- arrays ----
+
+const FENCE: usize = 4;
+
+// An array to lend, between words that no call may touch.
+#[derive(Clone, PartialEq)]
+struct Lent<T> {
+    all: Vec<T>,
+}
+
+impl<T: Copy> Lent<T> {
+    fn new(contents: &[T], mut fence: impl FnMut() -> T) -> Lent<T> {
+        let mut all = Vec::with_capacity(contents.len() + 2 * FENCE);
+        all.extend((0..FENCE).map(|_| fence()));
+        all.extend_from_slice(contents);
+        all.extend((0..FENCE).map(|_| fence()));
+        Lent { all }
+    }
+
+    fn len(&self) -> usize {
+        self.all.len() - 2 * FENCE
+    }
+
+    fn words(&self) -> &[T] {
+        &self.all[FENCE..self.all.len() - FENCE]
+    }
+
+    fn words_mut(&mut self) -> &mut [T] {
+        let end = self.all.len() - FENCE;
+        &mut self.all[FENCE..end]
+    }
+
+    fn pointer(&mut self) -> *mut T {
+        self.words_mut().as_mut_ptr()
+    }
+}
+
+fn lent_words(chance: &mut Chance, contents: &[u32]) -> Lent<u32> {
+    Lent::new(contents, || chance.word())
+}
+
+fn any_words(chance: &mut Chance, length: usize) -> Lent<u32> {
+    let contents: Vec<u32> = (0..length).map(|_| chance.word()).collect();
+    lent_words(chance, &contents)
+}
+
+// Digits often stand beside the bytes of a line, so that a call that reads past its end is caught.
+fn lent_bytes(chance: &mut Chance, contents: &[u8]) -> Lent<u8> {
+    Lent::new(contents, || if chance.percent(60) { b'0' + chance.below(10) as u8 } else { chance.word() as u8 })
+}
+
+// The arrays of a call. crate_line does not use the last two; in a list they are its answers and buffers.
+#[derive(Clone)]
+struct Arrays {
+    memory: Lent<u32>,
+    answer: Lent<u32>,
+    buffer: Lent<u32>,
+}
+
+#[derive(Clone, PartialEq)]
+enum Call {
+    CrateLine(u32, Lent<u8>),
+    RunLine(Lent<u8>),
+    Step(Lent<u32>),
+    List(usize, Lent<u32>),
+}
+
+fn call_library(call: &mut Call, arrays: &mut Arrays) -> u32 {
+    let (memory, memory_len) = (arrays.memory.pointer(), arrays.memory.len());
+    let (answer, answer_len) = (arrays.answer.pointer(), arrays.answer.len());
+    let (buffer, buffer_len) = (arrays.buffer.pointer(), arrays.buffer.len());
+    unsafe {
+        match call {
+            Call::CrateLine(previous, line) => pagontxu_crate_line(memory, memory_len, *previous, line.pointer(), line.len()),
+            Call::RunLine(line) => {
+                pagontxu_run_line(memory, memory_len, line.pointer(), line.len(), answer, answer_len, buffer, buffer_len)
+            }
+            Call::Step(step) => {
+                pagontxu_step(memory, memory_len, step.pointer(), step.len(), answer, answer_len, buffer, buffer_len)
+            }
+            Call::List(count, steps) => {
+                pagontxu_list(memory, memory_len, *count, steps.pointer(), steps.len(), answer, answer_len, buffer, buffer_len)
+            }
+        }
+    }
+}
+
+// ---- the same by the reference ----
+
+// Whether a memory is fit, from 01's 'Crate memory'.
+fn fit(memory: &[u32]) -> bool {
+    memory.len() == MEMORY
+        && memory[0] <= 1
+        && memory[1..BLOCK].iter().all(|word| *word == 0)
+        && memory[BLOCK..].chunks(BLOCK).all(fit_station)
+}
+
+fn fit_station(block: &[u32]) -> bool {
+    let (kind, r, status, mask, head, fill) = (block[0], block[1], block[2], block[3], block[4], block[5]);
+    let registers = &block[16..];
+    let right_r = match kind {
+        0 => r == 0,
+        4 => r == 1,
+        1 | 2 | 3 | 5 => r >= 1 && r <= 16,
+        _ => false,
+    };
+    if !right_r {
+        return false;
+    }
+    let s = match kind {
+        0 | 2 => 0,
+        4 => 2,
+        _ => r,
+    };
+    let places = if kind == 4 {
+        head <= 15 && fill <= 16 && (fill..16).all(|place| registers[(head + place) as usize % 16] == 0)
+    } else {
+        head == 0 && fill == 0 && registers[r as usize..].iter().all(|word| *word == 0)
+    };
+    places
+        && status >> s == 0
+        && mask >> s == 0
+        && block[6..16].iter().all(|word| *word == 0)
+        && registers.iter().all(|word| *word <= WORD_MAX)
+}
+
+// The reference's crate of a fit memory.
+fn load(memory: &[u32]) -> Crate {
+    let mut model = Crate::new();
+    model.inhibit = memory[0] == 1;
+    for (n, block) in memory.chunks(BLOCK).enumerate().skip(1) {
+        let kind = [Kind::Empty, Kind::Scaler, Kind::Output, Kind::Input, Kind::Buffer, Kind::Counter][block[0] as usize];
+        let module = &mut model.stations[n];
+        *module = Module::new(kind, block[1]);
+        module.status = block[2];
+        module.mask = block[3];
+        module.head = block[4];
+        if kind == Kind::Buffer {
+            module.words.extend((0..block[5]).map(|place| block[16 + (block[4] + place) as usize % 16]));
+        } else {
+            module.registers.copy_from_slice(&block[16..]);
+        }
+    }
+    model
+}
+
+// The 768 words of the reference's crate.
+fn save(model: &Crate, memory: &mut [u32]) {
+    memory.fill(0);
+    memory[0] = model.inhibit as u32;
+    for (n, block) in memory.chunks_mut(BLOCK).enumerate().skip(1) {
+        let module = &model.stations[n];
+        block[0] = match module.kind {
+            Kind::Empty => 0,
+            Kind::Scaler => 1,
+            Kind::Output => 2,
+            Kind::Input => 3,
+            Kind::Buffer => 4,
+            Kind::Counter => 5,
+        };
+        block[1] = module.r;
+        block[2] = module.status;
+        block[3] = module.mask;
+        block[4] = module.head;
+        block[5] = module.words.len() as u32;
+        if module.kind == Kind::Buffer {
+            for (place, word) in module.words.iter().enumerate() {
+                block[16 + (module.head as usize + place) % 16] = *word;
+            }
+        } else {
+            block[16..].copy_from_slice(&module.registers);
+        }
+    }
+}
+
+fn read_step(words: &[u32]) -> Option<Step> {
+    let [kind, f1, f2, f3, f4, f5] = [words[0], words[1], words[2], words[3], words[4], words[5]];
+    match kind {
+        1 => Some(Step::Naf([f1, f2, f3, f4])),
+        2 => Some(Step::Front([f1, f2, f3])),
+        3 => Some(Step::Z),
+        4 => Some(Step::C),
+        5 => Some(Step::I([f1])),
+        6 => Some(Step::Lam),
+        7 => Some(Step::Scan([f1, f2, f3, f4, f5])),
+        8 => Some(Step::Repeat([f1, f2, f3, f4, f5])),
+        9 => Some(Step::Stop([f1, f2, f3, f4])),
+        _ => None,
+    }
+}
+
+// One step on a fit memory: the four words of its answer, or its refusal.
+fn run(memory: &mut [u32], step: Option<Step>, buffer: &mut [u32]) -> Result<[u32; ANSWER], u32> {
+    let step = step.ok_or(GARBLED)?;
+    let mut model = load(memory);
+    let mut words = Vec::new();
+    let answer = reference::run_step(&mut model, step, buffer.len(), &mut words)?;
+    save(&model, memory);
+    buffer[..words.len()].copy_from_slice(&words);
+    Ok(match answer {
+        Answer::Replied(reply) => [1, reply.x, reply.q, reply.r],
+        Answer::Taken(taken) => [2, taken as u32, 0, 0],
+        Answer::Done => [3, 1, 0, 0],
+        Answer::Looked(l, count, first) => [4, l, count, first],
+        Answer::Transferred(transfer) => [5, transfer.end, words.len() as u32, transfer.cycles],
+    })
+}
+
+// Puts an answer or a refusal into the first four words, and gives the number to return.
+fn tell(result: Result<[u32; ANSWER], u32>, answer: &mut [u32]) -> u32 {
+    let (words, number) = match result {
+        Ok(words) => (words, 0),
+        Err(number) => ([0, number, 0, 0], number),
+    };
+    if answer.len() >= ANSWER {
+        answer[..ANSWER].copy_from_slice(&words);
+    }
+    number
+}
+
+fn call_reference(call: &Call, arrays: &mut Arrays) -> u32 {
+    let (memory, answer, buffer) = (arrays.memory.words_mut(), arrays.answer.words_mut(), arrays.buffer.words_mut());
+    let fit = fit(memory);
+    match call {
+        Call::CrateLine(previous, line) => {
+            if !fit {
+                return UNFIT_CRATE;
+            }
+            match reference::crate_line(line.words(), *previous) {
+                Ok((n, module)) => {
+                    let mut model = load(memory);
+                    model.stations[n as usize] = module;
+                    save(&model, memory);
+                    0
+                }
+                Err(number) => number,
+            }
+        }
+        Call::RunLine(line) => {
+            let result = if !fit {
+                Err(UNFIT_CRATE)
+            } else if answer.len() < ANSWER {
+                Err(SHORT_BUFFER)
+            } else {
+                run(memory, reference::run_line(line.words()), buffer)
+            };
+            tell(result, answer)
+        }
+        Call::Step(step) => {
+            let result = if !fit {
+                Err(UNFIT_CRATE)
+            } else if step.len() < STEP || answer.len() < ANSWER {
+                Err(SHORT_BUFFER)
+            } else {
+                run(memory, read_step(step.words()), buffer)
+            };
+            tell(result, answer)
+        }
+        Call::List(count, steps) => {
+            if !fit {
+                return UNFIT_CRATE;
+            }
+            if steps.len() / STEP < *count || answer.len() / ANSWER < *count || buffer.len() / BUFFER < *count {
+                return SHORT_BUFFER;
+            }
+            for k in 0..*count {
+                let step = read_step(&steps.words()[STEP * k..STEP * (k + 1)]);
+                let result = run(memory, step, &mut buffer[BUFFER * k..BUFFER * (k + 1)]);
+                tell(result, &mut answer[ANSWER * k..ANSWER * (k + 1)]);
+            }
+            0
+        }
+    }
+}
+
+// ---- random memories ----
+
+const EDGE_WORDS: [u32; 15] =
+    [0, 1, 2, 5, 10, 255, 65535, 65536, 8388606, 8388607, 8388608, 8388609, 16777213, 16777214, 16777215];
+
+// A word of 24 bits.
+fn word24(chance: &mut Chance) -> u32 {
+    if chance.percent(50) {
+        chance.pick(&EDGE_WORDS)
+    } else {
+        chance.word() >> chance.from(8, 31)
+    }
+}
+
+// Bits of `s` sources: none, all or any.
+fn sources(chance: &mut Chance, s: u32) -> u32 {
+    let any = chance.word();
+    chance.pick(&[0, any, any, u32::MAX]) & ((1 << s) - 1)
+}
+
+fn register_count(chance: &mut Chance, kind: u32) -> u32 {
+    let any = chance.from(1, 16);
+    match kind {
+        0 => 0,
+        4 => 1,
+        _ => chance.pick(&[1, 2, 3, any, any, 16]),
+    }
+}
+
+fn fill_station(chance: &mut Chance, block: &mut [u32], wide: bool) {
+    let kind = chance.pick(&[1, 2, 3, 4, 4, 5]);
+    let kind = if wide && kind == 4 { 5 } else { kind };
+    let r = if wide { 16 } else { register_count(chance, kind) };
+    block[0] = kind;
+    block[1] = r;
+    let s = match kind {
+        2 => 0,
+        4 => 2,
+        _ => r,
+    };
+    block[2] = sources(chance, s);
+    block[3] = sources(chance, s);
+    if kind == 4 {
+        let any = chance.from(0, 16);
+        block[4] = chance.from(0, 15);
+        block[5] = chance.pick(&[0, 1, 2, 15, 16, any, any]);
+        for place in 0..block[5] {
+            block[16 + (block[4] + place) as usize % 16] = word24(chance);
+        }
+    } else {
+        for register in &mut block[16..16 + r as usize] {
+            *register = word24(chance);
+        }
+    }
+}
+
+fn fit_memory(chance: &mut Chance) -> Vec<u32> {
+    let mut memory = vec![0; MEMORY];
+    let density = chance.pick(&[0, 20, 60, 90, 90, 100]);
+    let wide = chance.percent(10); // all modules with sixteen registers, for long scans
+    memory[0] = chance.percent(20) as u32;
+    for block in memory.chunks_mut(BLOCK).skip(1) {
+        if chance.percent(density) {
+            fill_station(chance, block, wide);
+        }
+    }
+    memory
+}
+
+// Changes one word; once in a while the memory stays fit.
+fn spoil(chance: &mut Chance, memory: &mut [u32]) {
+    let place = match chance.below(6) {
+        0 => chance.below(MEMORY),
+        1 => chance.pick(&[0, 1, 31]),
+        2 => chance.below(BLOCK),
+        3 => BLOCK * (1 + chance.below(23)) + chance.below(6),
+        4 => BLOCK * (1 + chance.below(23)) + chance.below(16),
+        _ => BLOCK * (1 + chance.below(23)) + 16 + chance.below(16),
+    };
+    let old = memory[place];
+    memory[place] = match chance.below(7) {
+        0 => chance.word(),
+        1 => old ^ (1 << chance.below(32)),
+        2 => old.wrapping_add(1),
+        3 => old.wrapping_sub(1),
+        4 => old.wrapping_add(1 << 24),
+        5 => chance.pick(&[1, 2, 4, 6, 15, 16, 17]),
+        _ => 0,
+    };
+}
+
+// The memory with one word spoilt, with another length, or wholly random.
+fn spoilt(chance: &mut Chance, memory: &[u32]) -> Vec<u32> {
+    let mut memory = memory.to_vec();
+    match chance.below(10) {
+        0..=5 => spoil(chance, &mut memory),
+        6..=7 => {
+            let any = chance.below(1600);
+            let length = chance.pick(&[0, 1, 31, 32, 736, 767, 769, 800, 1536, any, any]);
+            let random = chance.percent(30);
+            memory.resize_with(length, || if random { chance.word() } else { 0 });
+        }
+        _ => {
+            let shift = chance.pick(&[0, 8, 24, 28, 31]);
+            memory.fill_with(|| chance.word() >> shift);
+        }
+    }
+    memory
+}
+
+// ---- random steps ----
+
+const FUNCTIONS: [u32; 24] = [0, 0, 2, 2, 3, 9, 16, 18, 21, 25, 25, 8, 10, 24, 26, 26, 27, 1, 1, 11, 17, 17, 19, 23];
+
+// Past its bound, once in a while: a number near it, a good one with a higher bit set, or any.
+fn perhaps_past(chance: &mut Chance, good: u32, past: &[u32]) -> u32 {
+    if !chance.percent(3) {
+        return good;
+    }
+    match chance.below(3) {
+        0 => chance.pick(past),
+        1 => good | 1 << chance.from(4, 31),
+        _ => chance.word(),
+    }
+}
+
+// A station, most often one with a module, and its register count.
+fn station(chance: &mut Chance, memory: &[u32]) -> (u32, u32) {
+    let mut n = chance.from(1, 23);
+    for _ in 0..8 {
+        let r = memory.get(BLOCK * n as usize + 1).copied().unwrap_or(0);
+        if r > 0 || chance.percent(5) {
+            return (n, r.min(16));
+        }
+        n = n % 23 + 1;
+    }
+    (n, 0)
+}
+
+fn subaddress(chance: &mut Chance, r: u32, f: u32) -> u32 {
+    if [1, 11, 17, 19, 23].contains(&f) && chance.percent(90) {
+        chance.pick(&[12, 12, 13, 13, 14])
+    } else if r > 0 && chance.percent(80) {
+        chance.from(0, r - 1)
+    } else if chance.percent(30) {
+        r.min(15)
+    } else {
+        chance.from(0, 15)
+    }
+}
+
+// The six words of a step; those past its fields are any.
+fn any_step(chance: &mut Chance, memory: &[u32]) -> [u32; STEP] {
+    let mut step = [0; STEP];
+    step.fill_with(|| chance.word());
+    let (n, r) = station(chance, memory);
+    let n_word = perhaps_past(chance, n, &[0, 24, 25, 26, 28, 30, 31, 32]);
+    let kind = match chance.below(100) {
+        0..=34 => 1,
+        35..=64 => 2,
+        65 => 3,
+        66..=67 => 4,
+        68..=73 => 5,
+        74..=77 => 6,
+        78..=85 => 7,
+        86..=90 => 8,
+        91..=95 => 9,
+        _ => chance.pick(&[0, 1, 2, 3, 4, 5, 6, 7, 8, 9, 10, 11, 255, 256, 257, 1 << 16 | 1, 1 << 31 | 3, u32::MAX]),
+    };
+    step[0] = kind;
+    match kind {
+        1 => {
+            let f = if chance.percent(90) { chance.pick(&FUNCTIONS) } else { chance.from(0, 31) };
+            let a = subaddress(chance, r, f);
+            let w = word24(chance);
+            step[1] = n_word;
+            step[2] = perhaps_past(chance, a, &[16, 17, 31, 255]);
+            step[3] = perhaps_past(chance, f, &[32, 33, 63, 255]);
+            step[4] = perhaps_past(chance, w, &[1 << 24, (1 << 24) + 1, 1 << 31, u32::MAX]);
+        }
+        2 => {
+            let a = subaddress(chance, r, 0);
+            let v = word24(chance);
+            step[1] = n_word;
+            step[2] = perhaps_past(chance, a, &[16, 17, 31, 255]);
+            step[3] = perhaps_past(chance, v, &[1 << 24, (1 << 24) + 1, 1 << 31, u32::MAX]);
+        }
+        5 => {
+            let v = chance.pick(&[0, 0, 0, 1]);
+            step[1] = perhaps_past(chance, v, &[2, 3, 255, 256, 1 << 24, u32::MAX]);
+        }
+        7..=9 => {
+            let a = if chance.percent(50) { subaddress(chance, r, 0) } else { 0 };
+            let f = chance.pick(&[0, 2, 2, 3]);
+            let (some, any) = (chance.from(1, 64), chance.from(1, 512));
+            let limit = chance.pick(&[1, 2, 3, 16, 17, some, some, any, 512]);
+            let limit = perhaps_past(chance, limit, &[0, 513, 514, 1024, u32::MAX]);
+            step[1] = n_word;
+            step[2] = perhaps_past(chance, a, &[16, 17, 31, 255]);
+            step[3] = perhaps_past(chance, f, &[1, 4, 5, 8, 9, 16, 31, 32]);
+            match kind {
+                7 => {
+                    let to = chance.from(n, 23);
+                    let to = chance.pick(&[n, to, to, 23]);
+                    step[4] = perhaps_past(chance, to, &[0, n - 1, n / 2, 24, 25, 255]);
+                    step[5] = limit;
+                }
+                8 => {
+                    let (some, any) = (chance.from(1, 64), chance.from(1, 4096));
+                    let tries = chance.pick(&[1, 2, 3, 16, some, some, limit, limit.wrapping_add(1), any]);
+                    step[4] = limit;
+                    step[5] = perhaps_past(chance, tries, &[0, 4096, 4097, 8192, u32::MAX]);
+                }
+                _ => step[4] = limit,
+            }
+        }
+        _ => {}
+    }
+    step
+}
+
+// How many words of buffer to lend for a step: often about as many as its limit.
+fn lent_length(chance: &mut Chance, step: &[u32; STEP]) -> usize {
+    let limit = match step[0] {
+        7 => step[5],
+        8 | 9 => step[4],
+        _ => chance.from(0, 600),
+    };
+    let limit = limit.min(599) as usize;
+    let any = chance.below(601);
+    chance.pick(&[limit, limit, limit, limit + 1, 512, 600, any, any, limit.saturating_sub(1), 0])
+}
+
+// ---- random lines ----
+
+fn run_text(step: &[u32; STEP]) -> String {
+    let [kind, a, b, c, d, e] = *step;
+    match kind {
+        1 => format!("op=naf n={a} a={b} f={c} w={d}"),
+        2 => format!("op=front n={a} a={b} v={c}"),
+        3 => "op=z".to_string(),
+        4 => "op=c".to_string(),
+        5 => format!("op=i v={a}"),
+        6 => "op=lam".to_string(),
+        7 => format!("op=scan n={a} a={b} f={c} to={d} limit={e}"),
+        8 => format!("op=repeat n={a} a={b} f={c} limit={d} tries={e}"),
+        9 => format!("op=stop n={a} a={b} f={c} limit={d}"),
+        10 => "op=put n=1 a=0 to=2 limit=1 w=0".to_string(),
+        _ => format!("op={kind}"),
+    }
+}
+
+// A crate line, and the `previous` to hand in with it.
+fn crate_text(chance: &mut Chance) -> (String, u32) {
+    let n = chance.from(1, 23);
+    let kind = chance.from(1, 5);
+    let r = register_count(chance, kind);
+    let any = chance.from(0, 23);
+    let previous = chance.pick(&[0, 0, n - 1, n - 1, any, n, n + 1, 23, 24, u32::MAX]);
+    let n = perhaps_past(chance, n, &[0, 24, 25, 99999999]);
+    let (kind, r) = match chance.below(12) {
+        0 => (chance.pick(&[0, 1, 4, 5, 6, 7, 255, 257]), r),
+        1 => (kind, chance.pick(&[0, 1, 2, 15, 16, 17, 18, 32, 257])),
+        _ => (kind, r),
+    };
+    (format!("n={n} kind={kind} r={r}"), previous)
+}
+
+// The line with a fault of some shape; once in a while still in form.
+fn garble(chance: &mut Chance, line: &[u8]) -> Vec<u8> {
+    let at = chance.below(line.len() + 1);
+    let mut out = line.to_vec();
+    match chance.below(17) {
+        0 => out.clear(),
+        1 => out.extend_from_slice(chance.pick(&[b"\r" as &[u8], b"\n", b" ", b"\t", b"\0", b"\xff", b"0", b" v=0", b"x"])),
+        2 => out.splice(0..0, chance.pick(&[b" " as &[u8], b"\n", b"\xef\xbb\xbf", b"#", b"0"]).iter().copied()).for_each(drop),
+        3 => out.truncate(at),
+        4 => out.insert(at, chance.word() as u8),
+        5 => out.splice(at..(at + 1).min(line.len()), []).for_each(drop),
+        6 => out.make_ascii_uppercase(),
+        7 => {
+            if let Some(place) = line.iter().position(|byte| *byte == b' ') {
+                out.insert(place, b' ');
+            }
+        }
+        8 => out.retain(|byte| *byte != b' '),
+        9 | 10 => {
+            // another order of the fields, one dropped or one twice
+            let mut parts: Vec<&[u8]> = line.split(|byte| *byte == b' ').collect();
+            let (one, two) = (chance.below(parts.len()), chance.below(parts.len()));
+            match chance.below(3) {
+                0 => parts.swap(one, two),
+                1 => drop(parts.remove(one)),
+                _ => parts.insert(two, parts[one]),
+            }
+            out = parts.join(&b' ');
+        }
+        11 => {
+            // a number written otherwise
+            let places: Vec<usize> = (0..line.len()).filter(|place| line[*place] == b'=').collect();
+            if !places.is_empty() {
+                let start = chance.pick(&places) + 1;
+                let digits = line[start..].iter().take_while(|byte| byte.is_ascii_digit()).count();
+                let shapes: [&[u8]; 14] = [
+                    b"", b"0", b"-1", b"+1", b"00", b"01", b"000000001", b"99999999", b"100000000", b"4294967297",
+                    b"18446744073709551617", b"0x1", b"1.0", b"1e1",
+                ];
+                out.splice(start..start + digits, chance.pick(&shapes).iter().copied()).for_each(drop);
+            }
+        }
+        12 => {
+            let length = chance.pick(&[79, 80, 81, 82, 83, 160, 256]);
+            out.resize(length.max(line.len()), b' ');
+        }
+        13 => {
+            let length = chance.pick(&[1, 79, 80, 81, 82, 83, 160, 255, 256, 1000, 4096, 65536, 65537]);
+            out.splice(0..0, vec![b'x'; length]).for_each(drop);
+        }
+        14 => {
+            let length = chance.below(100);
+            out = (0..length).map(|_| chance.word() as u8).collect();
+        }
+        15 => {
+            // the whole line again, with or without something between
+            out.extend_from_slice(chance.pick(&[b"" as &[u8], b"\n", b" "]));
+            out.extend_from_slice(line);
+        }
+        _ => {
+            if at < line.len() {
+                out[at] = line[at].wrapping_add(chance.pick(&[1, 255, 32, 128]));
+            }
+        }
+    }
+    out
+}
+
+fn perhaps_garbled(chance: &mut Chance, text: String) -> Lent<u8> {
+    let mut line = text.into_bytes();
+    if chance.percent(20) {
+        line = garble(chance, &line);
+    }
+    lent_bytes(chance, &line)
+}
+
+// ---- random calls ----
+
+// A length that is most often enough: at least `need` nine times in ten.
+fn length_about(chance: &mut Chance, need: usize, more: usize) -> usize {
+    match chance.below(10) {
+        0 => chance.below(need + 1),
+        1..=3 => need + chance.below(more + 1),
+        _ => need,
+    }
+}
+
+fn any_call(chance: &mut Chance, memory: &Lent<u32>) -> (Call, Arrays) {
+    let mut answer_len = match chance.below(20) {
+        0 => chance.below(ANSWER),
+        1..=4 => chance.from(5, 12) as usize,
+        _ => ANSWER,
+    };
+    let mut buffer_len = 0;
+    let call = match chance.below(100) {
+        0..=4 => {
+            let (text, previous) = crate_text(chance);
+            Call::CrateLine(previous, perhaps_garbled(chance, text))
+        }
+        5..=24 => {
+            let step = any_step(chance, memory.words());
+            buffer_len = lent_length(chance, &step);
+            Call::RunLine(perhaps_garbled(chance, run_text(&step)))
+        }
+        25..=95 => {
+            let step = any_step(chance, memory.words());
+            buffer_len = lent_length(chance, &step);
+            let mut words = step.to_vec();
+            match chance.below(40) {
+                0 => words.truncate(chance.below(STEP)),
+                1..=6 => words.resize_with(STEP + 1 + chance.below(6), || chance.word()),
+                _ => {}
+            }
+            Call::Step(lent_words(chance, &words))
+        }
+        _ => {
+            let most = chance.pick(&[2, 6, 6, 6, 6, 6, 6, 6, 6, 40]);
+            let mut count = chance.below(most);
+            let mut words: Vec<u32> = (0..count).flat_map(|_| any_step(chance, memory.words())).collect();
+            let steps_len = length_about(chance, STEP * count, STEP);
+            words.resize_with(steps_len, || chance.word());
+            answer_len = length_about(chance, ANSWER * count, ANSWER);
+            buffer_len = length_about(chance, BUFFER * count, BUFFER);
+            match chance.below(30) {
+                0 => count += 1 + chance.below(3),
+                // counts whose lengths in words pass 64 bits
+                1 => {
+                    let past = [usize::MAX, 1 << 63, (1 << 63) + count, (1 << 62) + count, (1 << 55) + count, usize::MAX / 6 + 1, 1 << 32, 1 << 31];
+                    count = chance.pick(&past);
+                }
+                2 => count = count.saturating_sub(1),
+                _ => {}
+            }
+            Call::List(count, lent_words(chance, &words))
+        }
+    };
+    let arrays = Arrays { memory: memory.clone(), answer: any_words(chance, answer_len), buffer: any_words(chance, buffer_len) };
+    (call, arrays)
+}
+
+// ---- what is printed of a difference ----
+
+fn show_call(call: &Call) {
+    match call {
+        Call::CrateLine(previous, line) => println!("pagontxu_crate_line, previous {previous}, line \"{}\"", line.words().escape_ascii()),
+        Call::RunLine(line) => println!("pagontxu_run_line, line \"{}\"", line.words().escape_ascii()),
+        Call::Step(step) => println!("pagontxu_step, step {:?}", step.words()),
+        Call::List(count, steps) => {
+            println!("pagontxu_list, count {count}, {} words of steps", steps.len());
+            steps.words().chunks(STEP).for_each(|step| println!("  {step:?}"));
+        }
+    }
+}
+
+fn show_memory(memory: &[u32]) {
+    println!("memory before: {} words; those not 0, by blocks:", memory.len());
+    for (n, block) in memory.chunks(BLOCK).enumerate() {
+        if block.iter().any(|word| *word != 0) {
+            println!("  {n}: {block:?}");
+        }
+    }
+}
+
+// The places where two arrays differ; a place below 0 or past the length was not lent.
+fn show_difference<T: Copy + PartialEq + Debug>(name: &str, before: &Lent<T>, reference: &Lent<T>, library: &Lent<T>) {
+    let mut shown = 0;
+    for place in 0..before.all.len() {
+        if reference.all[place] != library.all[place] {
+            if shown < 20 {
+                println!(
+                    "{name} ({} lent) word {}: before {:?}, reference {:?}, library {:?}",
+                    before.len(), place as i64 - FENCE as i64, before.all[place], reference.all[place], library.all[place]
+                );
+            }
+            shown += 1;
+        }
+    }
+    if shown > 20 {
+        println!("{name}: {} more words differ", shown - 20);
+    }
+}
+
+// ---- the program ----
+
+fn main() {
+    let numbers: Vec<u64> = std::env::args().skip(1).filter_map(|word| word.parse().ok()).collect();
+    let [seed, count] = match numbers[..] {
+        [seed, count] => [seed, count],
+        _ => {
+            eprintln!("library SEED COUNT");
+            std::process::exit(2);
+        }
+    };
+    let mut chance = Chance(seed);
+    let mut memory = lent_words(&mut chance, &[]);
+    let mut left = 0; // calls until a new memory is made
+    let mut by_function = [0u64; 4];
+    let mut by_number = [0u64; 12];
+    for place in 1..=count {
+        if left == 0 {
+            let contents = fit_memory(&mut chance);
+            memory = lent_words(&mut chance, &contents);
+            left = 1 + chance.below(100);
+        }
+        left -= 1;
+        let (call, mut before) = any_call(&mut chance, &memory);
+        if chance.percent(6) {
+            let contents = spoilt(&mut chance, memory.words());
+            before.memory = lent_words(&mut chance, &contents);
+        }
+        let mut reference = before.clone();
+        let mut library = before.clone();
+        let mut call_after = call.clone();
+        let number_reference = call_reference(&call, &mut reference);
+        let number_library = call_library(&mut call_after, &mut library);
+
+        let same = number_reference == number_library
+            && reference.memory == library.memory
+            && reference.answer == library.answer
+            && reference.buffer == library.buffer
+            && call == call_after
+            && fit(before.memory.words()) == fit(library.memory.words());
+        if !same {
+            println!("DIFFERENT: call {place} of seed {seed}; bench/library.sh {place} {seed} repeats it");
+            show_call(&call);
+            println!("answer of {} words, buffer of {} words", before.answer.len(), before.buffer.len());
+            show_memory(before.memory.words());
+            println!("returned: reference {number_reference}, library {number_library}");
+            show_difference("memory", &before.memory, &reference.memory, &library.memory);
+            show_difference("answer", &before.answer, &reference.answer, &library.answer);
+            show_difference("buffer", &before.buffer, &reference.buffer, &library.buffer);
+            if call != call_after {
+                println!("the library changed the step or line that it was lent to read");
+            }
+            if fit(before.memory.words()) != fit(library.memory.words()) {
+                println!("the library left a fit crate unfit, or an unfit one fit");
+            }
+            println!("{place} calls, 1 differs");
+            std::process::exit(1);
+        }
+        let function = match call {
+            Call::Step(_) => 0,
+            Call::RunLine(_) => 1,
+            Call::CrateLine(..) => 2,
+            Call::List(..) => 3,
+        };
+        by_function[function] += 1;
+        by_number[number_library as usize] += 1;
+        // The next call gets what this one left, or the memory from before it was spoilt.
+        if fit(library.memory.words()) {
+            memory = library.memory;
+        }
+    }
+    let [steps, run_lines, crate_lines, lists] = by_function;
+    println!("steps {steps}, run lines {run_lines}, crate lines {crate_lines}, lists {lists}");
+    print!("returned 0: {}; refusals", by_number[0]);
+    (1..12).for_each(|number| print!(" {number}: {}", by_number[number]));
+    println!();
+    println!("{count} calls, 0 differ");
+}
