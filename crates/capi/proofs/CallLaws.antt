@@ -24,7 +24,8 @@ use Rattle.controller.specs.declared.Answer.the-variants.{Refused}
 use Rattle.lists.specs.Words.{kindsOf, readingOf}
 use Rattle.lists.specs.Runs.{listOf}
 use Rattle.rehearsal.specs.Modules.{installOf}
-use Rattle.capi.specs.Calls.{answerNumber, verdictNumber, withAnswer, Called, told, unlessUnfit, short, stepCall, lineCall, installedCall, crateCall, ranCall, listCall}
+use Rattle.step.specs.Refusals.{verdictNumber}
+use Rattle.capi.specs.Calls.{answerNumber, withAnswer, Called, told, unlessUnfit, short, stepCall, lineCall, installedCall, crateCall, ranCall, listCall}
 
 -- ---- the words of a step
 -- words past the sixth are not looked at

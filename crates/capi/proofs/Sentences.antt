@@ -24,7 +24,8 @@ use Rattle.lists.specs.Words.{readingOf}
 use Rattle.lists.specs.Runs.{ranOf, unrun, isEnough, listOf}
 use Rattle.controller.specs.Placing.{uninstalled, judgedModuleOf, placeOf}
 use Rattle.rehearsal.specs.Modules.{installOf}
-use Rattle.capi.specs.Calls.{answerNumber, verdictNumber, short, stepCall, lineCall, crateCall, listCall}
+use Rattle.capi.specs.Calls.{answerNumber, short, stepCall, lineCall, crateCall, listCall}
+use Rattle.step.specs.Refusals.{verdictNumber}
 
 -- a step that is not told as 0 is refused
 told-same : (m : List ℕ) (o : Order) (a : Answer) → stepOf m o .out .answer ≡ a → (answerNumber a ≡ 0 → ⊥)

@@ -5,7 +5,7 @@ use mathlib.Core.List.{List, _++_}
 use lib.Dec.{leb}
 use lib.ListN.{length, drop}
 use Rattle.dataway.specs.Crate.{isFitCrate}
-use Rattle.step.specs.Refusals.{refusalNumber}
+use Rattle.step.specs.Refusals.{refusalNumber, verdictNumber}
 use Rattle.step.specs.declared.Refusal.{Refusal}
 use Rattle.step.specs.declared.Refusal.the-variants.{ShortBuffer, UnfitCrate}
 use Rattle.step.specs.declared.Verdict.{Verdict}
@@ -28,11 +28,6 @@ answerNumber (Taken v) = 0
 answerNumber Done = 0
 answerNumber (Looked p) = 0
 answerNumber (Transferred p) = 0
-
--- the number that a call with this verdict returns
-abbrev pub verdictNumber : Verdict → ℕ
-verdictNumber Fine = 0
-verdictNumber (Refuse q) = refusalNumber q
 
 -- ---- one step or one run line
 -- the four words of an answer in the first four words lent for it; the rest, and fewer than four, keep their contents

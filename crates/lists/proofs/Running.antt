@@ -18,11 +18,11 @@ use Rattle.lists.specs.Runs.{joined, answerOf, bufferOf, ranOf}
 use Rattle.lists.proofs.Parts.{part-lent, part-long, part-back, next-part, part-done}
 
 -- ---- one more step at a list's end
-run-snoc : (m : List ℕ) (xs : List Order) (s : Order) → run leaves m (xs ++ (s ∷ [])) ≡ leaves (run leaves m xs) s
+pub run-snoc : (m : List ℕ) (xs : List Order) (s : Order) → run leaves m (xs ++ (s ∷ [])) ≡ leaves (run leaves m xs) s
 run-snoc m [] s = refl
 run-snoc m (x ∷ xs) s = run-snoc (leaves m x) xs s
 
-outs-snoc : (m : List ℕ) (xs : List Order) (s : Order) → outs leaves gives m (xs ++ (s ∷ [])) ≡ outs leaves gives m xs ++ (gives (run leaves m xs) s ∷ [])
+pub outs-snoc : (m : List ℕ) (xs : List Order) (s : Order) → outs leaves gives m (xs ++ (s ∷ [])) ≡ outs leaves gives m xs ++ (gives (run leaves m xs) s ∷ [])
 outs-snoc m [] s = refl
 outs-snoc m (x ∷ xs) s = ap (λ (l : List Out). gives m x ∷ l) (outs-snoc (leaves m x) xs s)
 

@@ -21,7 +21,8 @@ absorb-by n x t false e =
     let k : n ≤ length (take n x) = rw (length-take-le n x h) (omega arith) in
     take-append-le n (take n x) t k ∙ take-take n n x (omega arith) ∙ sym (take-append-le n x t h)
 
-absorb : (n : ℕ) (x t : List ℕ) → take n (take n x ++ t) ≡ take n (x ++ t)
+-- of a list cut to n, what follows it is cut as of the whole
+pub absorb : (n : ℕ) (x t : List ℕ) → take n (take n x ++ t) ≡ take n (x ++ t)
 absorb n x t = absorb-by n x t (ltb (length x) n) refl
 
 -- a state with bytes l more of its line

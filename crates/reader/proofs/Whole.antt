@@ -134,7 +134,8 @@ answered-cut s l =
 line-same : (s : State) (p : List ℕ) → s .part ≡ take 81 p → between (answered s (s .part)) ≡ answered (between s) p
 line-same s p e = ap (λ (l : List ℕ). between (answered s l)) e ∙ ap between (answered-cut s p) ∙ answered-between s p
 
-part-more : (p : List ℕ) (b : ℕ) (t : Bool) → ltb (length p) 81 ≡ t
+-- of a line cut to 81 bytes, one byte more is that of the whole
+pub part-more : (p : List ℕ) (b : ℕ) (t : Bool) → ltb (length p) 81 ≡ t
     → cond (ltb (length (take 81 p)) 81) (take 81 p ++ (b ∷ [])) (take 81 p) ≡ take 81 (p ++ (b ∷ []))
 part-more p b true e =
     let h : length p < 81 = ltb-true (length p) 81 e in

@@ -123,3 +123,4 @@ pub record NextLf (l : List ℕ) (f r : ℕ) : Type 0 where
   pub from : f ≤ r
   pub within : r ≤ length l
   pub before : (k : ℕ) → k < r → f ≤ k → getD l k 0 ≡ 10 → ⊥
+  pub there : r < length l → getD l r 0 ≡ 10

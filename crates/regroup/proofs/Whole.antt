@@ -40,14 +40,14 @@ module _ {Step : Type 0} (touches : Step → ℕ → Bool) (d : Step) (xs ys : L
   step-at k h = ap (λ (l : List Step). getD l k d) (r .second) ∙ getD-map-in (λ (i : ℕ). getD xs i d) p k 0 d h
 
 -- `Rearranged`, with the places given by a function: so a place can be left out without a new list of places
-record Placed {Step : Type 0} (touches : Step → ℕ → Bool) (d : Step) (xs ys : List Step) (p : ℕ → ℕ) : Type 0 where
-  same : (k : ℕ) → k < length ys → getD ys k d ≡ getD xs (p k) d
-  places : (k : ℕ) → k < length ys → p k < length xs
-  each : (i : ℕ) → i < length xs → (k : ℕ) × (k < length ys) × (p k ≡ i)
-  once : (j k : ℕ) → j < length ys → k < length ys → p j ≡ p k → j ≡ k
-  order : (j k : ℕ) → j < k → k < length ys → Common touches (getD ys j d) (getD ys k d) → p j < p k
+pub record Placed {Step : Type 0} (touches : Step → ℕ → Bool) (d : Step) (xs ys : List Step) (p : ℕ → ℕ) : Type 0 where
+  pub same : (k : ℕ) → k < length ys → getD ys k d ≡ getD xs (p k) d
+  pub places : (k : ℕ) → k < length ys → p k < length xs
+  pub each : (i : ℕ) → i < length xs → (k : ℕ) × (k < length ys) × (p k ≡ i)
+  pub once : (j k : ℕ) → j < length ys → k < length ys → p j ≡ p k → j ≡ k
+  pub order : (j k : ℕ) → j < k → k < length ys → Common touches (getD ys j d) (getD ys k d) → p j < p k
 
-placed : {Step : Type 0} (touches : Step → ℕ → Bool) (d : Step) (xs ys : List Step) (p : List ℕ)
+pub placed : {Step : Type 0} (touches : Step → ℕ → Bool) (d : Step) (xs ys : List Step) (p : List ℕ)
     → Rearranged touches d xs ys p → Placed touches d xs ys (λ (k : ℕ). getD p k 0)
 placed touches d xs ys p r =
     let l : length ys ≡ length p = as-long touches d xs ys p r in
@@ -90,7 +90,7 @@ module _ {Step : Type 0} (touches : Step → ℕ → Bool) (d x : Step) (xs ys :
       hit = skip-hit k (q .0) (length ys) hk (q .1) other
 
   -- the rest of the second list is a rearrangement of the rest of the first
-  rest : Placed touches d xs (del k ys) (λ (j : ℕ). pred (p (skip k j)))
+  pub rest : Placed touches d xs (del k ys) (λ (j : ℕ). pred (p (skip k j)))
   rest = record {
     same = λ j h. getD-del k ys j d ∙ r .same (skip k j) (in-long j h) ∙ ap (λ (i : ℕ). getD (x ∷ xs) i d) (sym (up j h));
     places = λ j h. omega (arith, r .places (skip k j) (in-long j h), up j h);

@@ -1,2 +1,3 @@
 -- The laws of `shell`.
 pub mod HandedLaws
+pub mod ListedLaws

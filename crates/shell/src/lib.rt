@@ -1,5 +1,8 @@
 // Opens, reads and writes: hands the bytes of two files to `reader`, and what it printed to standard output. What cannot be read or written is said on
 // standard error.
+mod steps;
+
+pub use steps::take_list;
 ghost use mathlib.Core.Path.{_≡_};
 ghost use mathlib.Core.Bool.{true};
 ghost use mathlib.Core.List.{[]};

@@ -2,6 +2,8 @@
 use Prim.Native.Nat.{ℕ}
 use Rattle.step.specs.declared.Refusal.{Refusal}
 use Rattle.step.specs.declared.Refusal.the-variants.{Garbled, NoSuchStation, NoSuchSubaddress, NoSuchFunction, OverwideWord, CrossedRange, BadLength, ShortBuffer, UnfitCrate, BadModule, OutOfOrder}
+use Rattle.step.specs.declared.Verdict.{Verdict}
+use Rattle.step.specs.declared.Verdict.the-variants.{Fine, Refuse}
 
 -- the paper's number of a refusal
 abbrev pub refusalNumber : Refusal → ℕ
@@ -16,3 +18,8 @@ refusalNumber ShortBuffer = 8
 refusalNumber UnfitCrate = 9
 refusalNumber BadModule = 10
 refusalNumber OutOfOrder = 11
+
+-- the number of a verdict: 0 where nothing is sent back
+abbrev pub verdictNumber : Verdict → ℕ
+verdictNumber Fine = 0
+verdictNumber (Refuse q) = refusalNumber q

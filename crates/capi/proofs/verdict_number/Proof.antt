@@ -1,7 +1,7 @@
 -- `verdict_number` meets its contract: each arm is a clause of `verdictNumber`.
 use mathlib.Core.Path.{sym, ap, _∙_}
 use borrow.Author.Needs.{needs}
-use Rattle.capi.specs.Calls.{verdictNumber}
+use Rattle.step.specs.Refusals.{verdictNumber}
 use Rattle.capi.proofs.verdict_number.Statement.{statement}
 use Rattle.capi.proofs.verdict_number.Tie as tie
 

@@ -23,7 +23,7 @@ shared-slice-read-if1 : tie.Need-shared-slice-read-if1 Inv-loop μ-loop
 shared-slice-read-if1 c = omega arith
 
 returns : tie.Need-returns Inv-loop μ-loop
-returns c = let l = c .before .before .before .loop in record { from = omega arith; within = omega arith; before = l .inv .2 }
+returns c = let l = c .before .before .before .loop in record { from = omega arith; within = omega arith; before = l .inv .2; there = λ h. c .if1 .taken }
 
 add-i : tie.Need-add-i Inv-loop μ-loop
 add-i c = omega arith
@@ -35,7 +35,7 @@ loop-again : tie.Need-loop-again Inv-loop μ-loop
 loop-again c = let l = c .before .before .before .loop in (omega arith, omega arith, below-more (λ (k : ℕ). c .before .before .before .before .args .from ≤ k → getD (c .before .before .before .before .args .text .now) k 0 ≡ 10 → ⊥) (l .i) (l .inv .2) (λ g. c .if1 .left))
 
 returns-2 : tie.Need-returns-2 Inv-loop μ-loop
-returns-2 c = let l = c .before .loop in record { from = omega arith; within = omega arith; before = l .inv .2 }
+returns-2 c = let l = c .before .loop in record { from = omega arith; within = omega arith; before = l .inv .2; there = λ h. absurd (omega arith) }
 
 pub find-lf-spec : {M : Type 1} → statement M
 find-lf-spec =

@@ -1,0 +1,4 @@
+-- The laws of `listfile`.
+pub mod WordLaws
+pub mod ListingLaws
+pub mod Whole

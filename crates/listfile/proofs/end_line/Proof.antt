@@ -1,0 +1,64 @@
+-- `end_line` meets its contract: the line's words are stored in the next place of the list (`line-stored`).
+use lib.Seq.{length-take-le}
+use mathlib.Core.Path.{sym}
+use native.Mathlib.Omega.{arith}
+use Rattle.listfile.proofs.ListingLaws.{line-stored}
+use borrow.Author.Needs.{needs}
+use Rattle.listfile.proofs.end_line.Statement.{statement}
+use Rattle.listfile.proofs.end_line.Tie as tie
+
+slice-aggregate-read-line : tie.Need-slice-aggregate-read-line
+slice-aggregate-read-line c = sym (length-take-le (c .before .before .before .args .s .fill) (c .before .before .before .args .line .now) (omega arith))
+
+read-line-requires : tie.Need-read-line-requires
+read-line-requires c κs = search needs
+
+mul-at : tie.Need-mul-at
+mul-at c = search needs
+
+add-to : tie.Need-add-to
+add-to c = search needs
+
+mul-write-step : tie.Need-mul-write-step
+mul-write-step c = search needs
+
+sub-write-step : tie.Need-sub-write-step
+sub-write-step c = search needs
+
+part-write-step-start : tie.Need-part-write-step-start
+part-write-step-start c = search needs
+
+part-write-step-end : tie.Need-part-write-step-end
+part-write-step-end c = search needs
+
+write-step-requires : tie.Need-write-step-requires
+write-step-requires c κs = search needs
+
+add-t11 : tie.Need-add-t11
+add-t11 c = search needs
+
+same-length : tie.Need-same-length
+same-length c = search needs
+
+returns : tie.Need-returns
+returns c = (
+  line-stored (c .before .before .before .before .before .before .before .before .before .before .args .line .now) (c .before .before .before .before .before .before .before .before .before .before .args .words .now) (c .before .before .before .before .before .before .before .before .before .before .args .s .fill) (c .before .before .before .before .before .before .before .before .before .before .args .s .number) _ _ (omega arith) (c .before .before .before .before .before .before .read-line .ensures .0) (c .before .before .before .write-step .ensures),
+  record { filled = omega arith; lined = omega arith; within = omega arith; room = omega arith },
+)
+
+pub end-line-spec : {M : Type 1} → statement M
+end-line-spec =
+    tie.close
+    (tie.spec
+    slice-aggregate-read-line
+    read-line-requires
+    mul-at
+    add-to
+    mul-write-step
+    sub-write-step
+    part-write-step-start
+    part-write-step-end
+    write-step-requires
+    add-t11
+    same-length
+    returns)

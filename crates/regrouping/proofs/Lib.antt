@@ -1,0 +1,2 @@
+-- The laws of `regrouping`.
+pub mod FilesLaws

@@ -1,0 +1,2 @@
+-- What is printed of two files.
+pub mod Files

@@ -1,0 +1,2 @@
+-- The laws of `report`.
+pub mod ReportLaws

@@ -1,0 +1,2 @@
+-- What the program prints of two lists.
+pub mod Report

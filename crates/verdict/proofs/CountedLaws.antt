@@ -1,0 +1,264 @@
+-- What a step counts as: which watches see it, when two steps that are refused are equal, and what its six words tell.
+-- Assumes nothing.
+use mathlib.Core.Path.{_≡_, refl, sym, ap, _∙_}
+use mathlib.Core.Bool.{Bool, true, false, false≢true, cond, _&&_, and-eq-true-iff}
+use mathlib.Core.Logic.{_⊎_, inl, inr}
+use mathlib.Core.List.{List}
+use Prim.Native.Nat.{ℕ, _+_, _-_, _*_, _≤_, _<_}
+use native.Mathlib.Omega.{arith}
+use native.Mathlib.Decide.{decLt, ℕ-discrete}
+use borrow.Author.Tests.{le-leb, eq-eqb, ne-eqb, eqb-true}
+use lib.Dec.{eqb}
+use lib.ListN.{length, length-replicate}
+use Rattle.step.specs.Refusals.{refusalNumber, verdictNumber}
+use Rattle.step.specs.Touches.{reach}
+use Rattle.step.specs.Verdict.{isFine, stepVerdict, verdictOf}
+use Rattle.step.proofs.Fine.{command-fine, front-fine, scan-fields, repeat-fine, stop-fine}
+use Rattle.step.proofs.Lengths.{judged-by-length}
+use Rattle.step.proofs.Numbers.{row, row-number, number-injective}
+use Rattle.step.specs.declared.Refusal.{Refusal}
+use Rattle.step.specs.declared.Refusal.the-variants.{Garbled, NoSuchStation, NoSuchSubaddress, NoSuchFunction, OverwideWord, CrossedRange, BadLength, ShortBuffer, UnfitCrate, BadModule, OutOfOrder}
+use Rattle.step.specs.declared.Step.{Step}
+use Rattle.step.specs.declared.Step.the-variants.{Command, Front, Z, C, Inhibit, LookAtMe, Scan, Repeat, Stop}
+use Rattle.step.specs.declared.Reading.{Reading}
+use Rattle.step.specs.declared.Reading.the-variants.{Good, Bad}
+use Rattle.step.specs.declared.Verdict.{Verdict}
+use Rattle.step.specs.declared.Verdict.the-variants.{Fine, Refuse}
+use borrow.Rule.Slice.PartMut.{midOf}
+use Rattle.lists.specs.Words.{kindsOf, readingOf, part}
+use Rattle.lists.proofs.Parts.{part-lent}
+use Rattle.verdict.specs.Counted.{lent, countedAs, counted, touchesLent, refusalOf, see, stepAt}
+use Rattle.verdict.specs.Equal.{plain, plainOf, wordsOf, same}
+use Rattle.verdict.specs.declared.Plain.{Plain}
+use Rattle.verdict.proofs.Lawful.{Sorted, sees-station, sees-refusal}
+
+pub lent-long : length lent ≡ 512
+unfolding lent
+lent-long = length-replicate {A = ℕ} 512 0
+
+-- of a buffer of 512 words the verdict sees no more
+pub judged-lent : (r : Reading) (b : List ℕ) → length b ≡ 512 → verdictOf r b ≡ verdictOf r lent
+judged-lent (Good s) b e = judged-by-length s b lent (e ∙ sym lent-long)
+judged-lent (Bad q) b e = refl
+
+-- ---- every step is refused with a number of the table or touches a station
+number-bounds : (q : Refusal) → (1 ≤ refusalNumber q) × (refusalNumber q ≤ 11)
+number-bounds Garbled = (omega arith, omega arith)
+number-bounds NoSuchStation = (omega arith, omega arith)
+number-bounds NoSuchSubaddress = (omega arith, omega arith)
+number-bounds NoSuchFunction = (omega arith, omega arith)
+number-bounds OverwideWord = (omega arith, omega arith)
+number-bounds CrossedRange = (omega arith, omega arith)
+number-bounds BadLength = (omega arith, omega arith)
+number-bounds ShortBuffer = (omega arith, omega arith)
+number-bounds UnfitCrate = (omega arith, omega arith)
+number-bounds BadModule = (omega arith, omega arith)
+number-bounds OutOfOrder = (omega arith, omega arith)
+
+abbrev Reached : Step → Type 0
+Reached s = (n : ℕ) × (1 ≤ n) × (n ≤ 23) × (reach s n ≡ true)
+
+reaches-one : (s : Step) (b : List ℕ) → isFine (stepVerdict s b) ≡ true → Reached s
+reaches-one (Command n a f w) b e = let h = command-fine n a f w e in (n, h .0, h .1, eq-eqb n n refl)
+reaches-one (Front n a v) b e = let h = front-fine n a v e in (n, h .0, h .1, eq-eqb n n refl)
+reaches-one Z b e = (1, omega arith, omega arith, refl)
+reaches-one C b e = (1, omega arith, omega arith, refl)
+reaches-one (Inhibit v) b e = (1, omega arith, omega arith, refl)
+reaches-one LookAtMe b e = (1, omega arith, omega arith, refl)
+reaches-one (Scan n a f to limit) b e =
+    let h = scan-fields n a f to limit (length b) e in
+    (n, h .0, h .1, rw (le-leb n n (omega arith), le-leb n to (h .4)))
+reaches-one (Repeat n a f limit tries) b e = let h = repeat-fine n a f limit tries (length b) e in (n, h .0, h .1, eq-eqb n n refl)
+reaches-one (Stop n a f limit) b e = let h = stop-fine n a f limit (length b) e in (n, h .0, h .1, eq-eqb n n refl)
+
+pub steps-sorted : Sorted touchesLent refusalOf
+steps-sorted r = go r (verdictOf r lent) refl
+  where
+    go : (r : Reading) (v : Verdict) → verdictOf r lent ≡ v
+        → ((1 ≤ refusalOf r) × (refusalOf r ≤ 11)) ⊎ ((n : ℕ) × (1 ≤ n) × (n ≤ 23) × (touchesLent r n ≡ true))
+    go r (Refuse q) e = inl (rw e (number-bounds q))
+    go (Bad q) Fine e = inl (number-bounds q)
+    go (Good s) Fine e =
+        let h : Reached s = reaches-one s lent (ap isFine e) in
+        inr (h .0, h .1, h .2, ap (λ (v : Verdict). isFine v && reach s (h .0)) e ∙ h .3)
+
+-- ---- a step that counts
+abbrev isGood : Reading → Bool
+isGood (Good s) = true
+isGood (Bad q) = false
+
+-- a step with a verdict
+pub counted-fine : (r : Reading) → verdictOf r lent ≡ Fine → counted r ≡ r
+unfolding counted
+counted-fine r e = ap (λ (v : Verdict). countedAs v r) e
+
+pub counted-refused : (r : Reading) (q : Refusal) → verdictOf r lent ≡ Refuse q → counted r ≡ Bad q
+unfolding counted
+counted-refused r q e = ap (λ (v : Verdict). countedAs v r) e
+
+-- what counts counts as itself
+pub counted-again : (r : Reading) → counted (counted r) ≡ counted r
+counted-again r = go (verdictOf r lent) refl
+  where
+    go : (v : Verdict) → verdictOf r lent ≡ v → counted (counted r) ≡ counted r
+    go Fine e = ap counted (counted-fine r e)
+    go (Refuse q) e = ap counted (counted-refused r q e) ∙ counted-refused (Bad q) q refl ∙ sym (counted-refused r q e)
+
+-- a step that counts as itself may be done
+good-fine : (s : Step) → counted (Good s) ≡ Good s → verdictOf (Good s) lent ≡ Fine
+good-fine s h = go (verdictOf (Good s) lent) refl
+  where
+    go : (v : Verdict) → verdictOf (Good s) lent ≡ v → verdictOf (Good s) lent ≡ Fine
+    go Fine e = e
+    go (Refuse q) e = absurd (false≢true (ap isGood (sym (counted-refused (Good s) q e) ∙ h)))
+
+-- steps that count and are refused with the same number are equal
+pub refused-equal : (r s : Reading) → counted r ≡ r → counted s ≡ s → 1 ≤ refusalOf r → refusalOf r ≡ refusalOf s → r ≡ s
+refused-equal (Bad q) (Bad p) hr hs l e = ap Bad (number-injective q p e)
+refused-equal (Good s) t hr hs l e = absurd (let z : refusalOf (Good s) ≡ 0 = ap verdictNumber (good-fine s hr) in omega (arith, l, z))
+refused-equal (Bad q) (Good s) hr hs l e = absurd (let z : refusalOf (Good s) ≡ 0 = ap verdictNumber (good-fine s hs) in omega (arith, l, e, z))
+
+-- ---- which watches see it
+pub see-good : (s : Step) (k : ℕ) → counted (Good s) ≡ Good s → k ≤ 23 → see k (Good s) ≡ reach s k
+see-good s k h l = sees-station touchesLent refusalOf k (Good s) l ∙ ap (λ (v : Verdict). isFine v && reach s k) (good-fine s h)
+
+pub see-good-high : (s : Step) (k : ℕ) → counted (Good s) ≡ Good s → 23 < k → see k (Good s) ≡ false
+see-good-high s k h l =
+    sees-refusal touchesLent refusalOf k (Good s) l ∙ ap (λ (v : Verdict). eqb (verdictNumber v) (k - 23)) (good-fine s h) ∙ ne-eqb 0 (k - 23) (λ e. omega (arith, e, l))
+
+pub see-bad : (q : Refusal) (k : ℕ) → see k (Bad q) ≡ eqb k (23 + refusalNumber q)
+see-bad q k = go (decLt 23 k)
+  where
+    pos : 1 ≤ refusalNumber q
+    pos = number-bounds q .0
+
+    go : Dec (23 < k) → see k (Bad q) ≡ eqb k (23 + refusalNumber q)
+    go (no b) =
+        sees-station touchesLent refusalOf k (Bad q) (omega (arith, b)) ∙ sym (ne-eqb k (23 + refusalNumber q) (λ e. omega (arith, e, b, pos)))
+    go (yes b) = sees-refusal touchesLent refusalOf k (Bad q) b ∙ at (ℕ-discrete (refusalNumber q) (k - 23))
+      where
+        at : Dec (refusalNumber q ≡ k - 23) → eqb (refusalNumber q) (k - 23) ≡ eqb k (23 + refusalNumber q)
+        at (yes e) = eq-eqb (refusalNumber q) (k - 23) e ∙ sym (eq-eqb k (23 + refusalNumber q) (omega (arith, e, b)))
+        at (no e) = ne-eqb (refusalNumber q) (k - 23) e ∙ sym (ne-eqb k (23 + refusalNumber q) (λ f. e (omega (arith, f, b))))
+
+-- a refusal's number, and the watch that it makes
+pub number-small : (q : Refusal) (x : ℕ) → x ≡ refusalNumber q → x ≤ 11
+number-small q x e = omega (arith, e, number-bounds q .1)
+
+pub see-refused : (r : Reading) (q : Refusal) (k x : ℕ) → r ≡ Bad q → x ≡ refusalNumber q → eqb k (23 + x) ≡ see k r
+see-refused r q k x er ex = ap (λ (n : ℕ). eqb k (23 + n)) ex ∙ sym (see-bad q k) ∙ ap (see k) (sym er)
+
+-- ---- a step, judged and read
+pub judged-good : (s : Step) (b : List ℕ) (v : Verdict) → length b ≡ 512 → v ≡ stepVerdict s b → v ≡ Fine → Good s ≡ counted (Good s)
+judged-good s b v l e f = sym (counted-fine (Good s) (sym (judged-lent (Good s) b l) ∙ sym e ∙ f))
+
+pub judged-bad : (s : Step) (b : List ℕ) (v : Verdict) (q : Refusal) → length b ≡ 512 → v ≡ stepVerdict s b → v ≡ Refuse q → Bad q ≡ counted (Good s)
+judged-bad s b v q l e f = sym (counted-refused (Good s) q (sym (judged-lent (Good s) b l) ∙ sym e ∙ f))
+
+pub bad-counts : (q : Refusal) → Bad q ≡ counted (Bad q)
+bad-counts q = sym (counted-refused (Bad q) q refl)
+
+pub step-read : (ws : List ℕ) (k : ℕ) (reading t r : Reading) → reading ≡ readingOf (midOf (6 * k) (6 * k + 6 - 6 * k) ws) → reading ≡ t → r ≡ counted t
+    → r ≡ stepAt ws k
+step-read ws k reading t r e h c = c ∙ ap counted (sym h ∙ e ∙ ap readingOf (part-lent 6 ws k))
+
+pub step-counts : (ws : List ℕ) (k : ℕ) (r : Reading) → r ≡ stepAt ws k → counted r ≡ r
+step-counts ws k r e = ap counted e ∙ counted-again (readingOf (part 6 ws k)) ∙ sym e
+
+-- ---- the six words tell the step
+pub plain-refused : (r : Reading) (q : Refusal) (x : ℕ) → r ≡ Bad q → x ≡ refusalNumber q → plain 0 x 0 0 0 0 ≡ plainOf r
+plain-refused r q x er ex = ap (λ (n : ℕ). plain 0 n 0 0 0 0) ex ∙ ap plainOf (sym er)
+
+abbrev readPlain : Plain → Reading
+readPlain x =
+    cond (eqb (x .kind) 0) (Bad (row (x .p)))
+    (cond (eqb (x .kind) 1) (Good (Command (x .p) (x .q) (x .r) (x .s)))
+    (cond (eqb (x .kind) 2) (Good (Front (x .p) (x .q) (x .r)))
+    (cond (eqb (x .kind) 3) (Good Z)
+    (cond (eqb (x .kind) 4) (Good C)
+    (cond (eqb (x .kind) 5) (Good (Inhibit (x .p)))
+    (cond (eqb (x .kind) 6) (Good LookAtMe)
+    (cond (eqb (x .kind) 7) (Good (Scan (x .p) (x .q) (x .r) (x .s) (x .t)))
+    (cond (eqb (x .kind) 8) (Good (Repeat (x .p) (x .q) (x .r) (x .s) (x .t)))
+    (Good (Stop (x .p) (x .q) (x .r) (x .s)))))))))))
+
+plain-back : (r : Reading) → readPlain (plainOf r) ≡ r
+plain-back (Good (Command n a f w)) = refl
+plain-back (Good (Front n a v)) = refl
+plain-back (Good Z) = refl
+plain-back (Good C) = refl
+plain-back (Good (Inhibit v)) = refl
+plain-back (Good LookAtMe) = refl
+plain-back (Good (Scan n a f to limit)) = refl
+plain-back (Good (Repeat n a f limit tries)) = refl
+plain-back (Good (Stop n a f limit)) = refl
+plain-back (Bad q) = ap Bad (row-number q)
+
+same-plain : (x y : Plain) → same x y ≡ true → x ≡ y
+same-plain x y h = rw (
+  eqb-true (x .kind) (y .kind) (a .0),
+  eqb-true (x .p) (y .p) (b .0),
+  eqb-true (x .q) (y .q) (c .0),
+  eqb-true (x .r) (y .r) (d .0),
+  eqb-true (x .s) (y .s) (e .0),
+  eqb-true (x .t) (y .t) (e .1),
+)
+  where
+    a : (eqb (x .kind) (y .kind) ≡ true) × ((eqb (x .p) (y .p) && (eqb (x .q) (y .q) && (eqb (x .r) (y .r) && (eqb (x .s) (y .s) && eqb (x .t) (y .t))))) ≡ true)
+    a = and-eq-true-iff (eqb (x .kind) (y .kind)) _ .0 h
+
+    b : (eqb (x .p) (y .p) ≡ true) × ((eqb (x .q) (y .q) && (eqb (x .r) (y .r) && (eqb (x .s) (y .s) && eqb (x .t) (y .t)))) ≡ true)
+    b = and-eq-true-iff (eqb (x .p) (y .p)) _ .0 (a .1)
+
+    c : (eqb (x .q) (y .q) ≡ true) × ((eqb (x .r) (y .r) && (eqb (x .s) (y .s) && eqb (x .t) (y .t))) ≡ true)
+    c = and-eq-true-iff (eqb (x .q) (y .q)) _ .0 (b .1)
+
+    d : (eqb (x .r) (y .r) ≡ true) × ((eqb (x .s) (y .s) && eqb (x .t) (y .t)) ≡ true)
+    d = and-eq-true-iff (eqb (x .r) (y .r)) _ .0 (c .1)
+
+    e : (eqb (x .s) (y .s) ≡ true) × (eqb (x .t) (y .t) ≡ true)
+    e = and-eq-true-iff (eqb (x .s) (y .s)) _ .0 (d .1)
+
+-- where the first five words are equal, the last decides
+pub last-decides : (x y : Plain) → x .kind ≡ y .kind → x .p ≡ y .p → x .q ≡ y .q → x .r ≡ y .r → x .s ≡ y .s → eqb (x .t) (y .t) ≡ same x y
+last-decides x y a b c d e = rw (
+  eq-eqb (x .kind) (y .kind) a,
+  eq-eqb (x .p) (y .p) b,
+  eq-eqb (x .q) (y .q) c,
+  eq-eqb (x .r) (y .r) d,
+  eq-eqb (x .s) (y .s) e,
+)
+
+same-self : (x : Plain) → same x x ≡ true
+same-self x = rw (
+  eq-eqb (x .kind) (x .kind) refl,
+  eq-eqb (x .p) (x .p) refl,
+  eq-eqb (x .q) (x .q) refl,
+  eq-eqb (x .r) (x .r) refl,
+  eq-eqb (x .s) (x .s) refl,
+  eq-eqb (x .t) (x .t) refl,
+)
+
+pub same-true : (r s : Reading) → same (plainOf r) (plainOf s) ≡ true → r ≡ s
+same-true r s h = sym (plain-back r) ∙ ap readPlain (same-plain (plainOf r) (plainOf s) h) ∙ plain-back s
+
+-- equal words are equal steps
+reading-same : (u w : List ℕ) → wordsOf u ≡ wordsOf w → readingOf u ≡ readingOf w
+unfolding readingOf kindsOf
+reading-same u w e = rw (
+  ap (λ (x : Plain). x .kind) e,
+  ap (λ (x : Plain). x .p) e,
+  ap (λ (x : Plain). x .q) e,
+  ap (λ (x : Plain). x .r) e,
+  ap (λ (x : Plain). x .s) e,
+  ap (λ (x : Plain). x .t) e,
+)
+
+pub words-same : (us : List ℕ) (i : ℕ) (ws : List ℕ) (j : ℕ) (x y : Plain) (b : Bool) → x ≡ wordsOf (part 6 us i) → y ≡ wordsOf (part 6 ws j)
+    → b ≡ same x y → b ≡ true → true ≡ same (plainOf (stepAt us i)) (plainOf (stepAt ws j))
+words-same us i ws j x y b ex ey e t =
+    let r : stepAt us i ≡ stepAt ws j = ap counted (reading-same (part 6 us i) (part 6 ws j) (sym ex ∙ same-plain x y (sym e ∙ t) ∙ ey)) in
+    sym (ap (λ (t : Reading). same (plainOf (stepAt us i)) (plainOf t)) (sym r) ∙ same-self (plainOf (stepAt us i)))
+
+pub same-false : (r s : Reading) → same (plainOf r) (plainOf s) ≡ false → r ≡ s → ⊥
+same-false r s h e = false≢true (sym h ∙ ap (λ (t : Reading). same (plainOf r) (plainOf t)) (sym e) ∙ same-self (plainOf r))

@@ -1,0 +1,25 @@
+-- `judged` meets its contract: where `judge` refuses, the step counts as its refusal, and else as itself.
+-- Assumes nothing.
+use borrow.Author.Needs.{needs}
+use Rattle.verdict.proofs.CountedLaws.{judged-good, judged-bad}
+use Rattle.verdict.proofs.judged.Statement.{statement}
+use Rattle.verdict.proofs.judged.Tie as tie
+
+judge-requires : tie.Need-judge-requires
+judge-requires c κs = search needs
+
+enum-told : tie.Need-enum-told
+enum-told c = search needs
+
+enum-known-verdict : tie.Need-enum-known-verdict
+enum-known-verdict c = search needs
+
+returns : tie.Need-returns
+returns c = judged-good _ _ _ (c .before .before .before .before .pre) (c .before .before .judge .ensures) (c .enum-told .given .1)
+
+returns-2 : tie.Need-returns-2
+returns-2 c = judged-bad _ _ _ _ (c .before .before .before .before .before .pre) (c .before .before .before .judge .ensures)
+    (c .before .verdict .given .1)
+
+pub judged-spec : {M : Type 1} → statement M
+judged-spec = tie.close (tie.spec judge-requires enum-told enum-known-verdict returns returns-2)

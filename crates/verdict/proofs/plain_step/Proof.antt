@@ -1,0 +1,94 @@
+-- `plain_step` meets its contract: each arm of the `match` is a clause of `plainOf`.
+-- Assumes nothing.
+use borrow.Author.Needs.{needs}
+use Rattle.verdict.proofs.plain_step.Statement.{statement}
+use Rattle.verdict.proofs.plain_step.Tie as tie
+
+enum-known-step : tie.Need-enum-known-step
+enum-known-step c = search needs
+
+enum-known-step-2 : tie.Need-enum-known-step-2
+enum-known-step-2 c = search needs
+
+enum-told : tie.Need-enum-told
+enum-told c = search needs
+
+bare-requires : tie.Need-bare-requires
+bare-requires c κs = search needs
+
+enum-told-2 : tie.Need-enum-told-2
+enum-told-2 c = search needs
+
+bare-requires-2 : tie.Need-bare-requires-2
+bare-requires-2 c κs = search needs
+
+enum-known-step-3 : tie.Need-enum-known-step-3
+enum-known-step-3 c = search needs
+
+enum-told-3 : tie.Need-enum-told-3
+enum-told-3 c = search needs
+
+bare-requires-3 : tie.Need-bare-requires-3
+bare-requires-3 c κs = search needs
+
+enum-known-step-4 : tie.Need-enum-known-step-4
+enum-known-step-4 c = search needs
+
+enum-known-step-5 : tie.Need-enum-known-step-5
+enum-known-step-5 c = search needs
+
+enum-known-step-6 : tie.Need-enum-known-step-6
+enum-known-step-6 c = search needs
+
+returns : tie.Need-returns
+returns c = rw (c .before .step .given .1)
+
+returns-2 : tie.Need-returns-2
+returns-2 c = rw (c .before .step2 .given .1)
+
+returns-3 : tie.Need-returns-3
+returns-3 c = rw (c .before .enum-told .given .1) (c .bare .ensures)
+
+returns-4 : tie.Need-returns-4
+returns-4 c = rw (c .before .enum-told2 .given .1) (c .bare2 .ensures)
+
+returns-5 : tie.Need-returns-5
+returns-5 c = rw (c .before .step3 .given .1)
+
+returns-6 : tie.Need-returns-6
+returns-6 c = rw (c .before .enum-told3 .given .1) (c .bare3 .ensures)
+
+returns-7 : tie.Need-returns-7
+returns-7 c = rw (c .before .step4 .given .1)
+
+returns-8 : tie.Need-returns-8
+returns-8 c = rw (c .before .step5 .given .1)
+
+returns-9 : tie.Need-returns-9
+returns-9 c = rw (c .before .step6 .given .1)
+
+pub plain-step-spec : {M : Type 1} → statement M
+plain-step-spec =
+    tie.close
+    (tie.spec
+    enum-known-step
+    enum-known-step-2
+    enum-told
+    bare-requires
+    enum-told-2
+    bare-requires-2
+    enum-known-step-3
+    enum-told-3
+    bare-requires-3
+    enum-known-step-4
+    enum-known-step-5
+    enum-known-step-6
+    returns
+    returns-2
+    returns-3
+    returns-4
+    returns-5
+    returns-6
+    returns-7
+    returns-8
+    returns-9)

@@ -1,0 +1,4 @@
+pub mod Watches
+pub mod Counted
+pub mod Equal
+pub mod Compared

@@ -1,0 +1,413 @@
+// Is the second list of steps a lawful rearrangement of the first, and if not, where do they part? The lists are lent as words, six words a step.
+// A list is looked at watch by watch: watch k from 1 to 23 is station k and sees the steps that touch it, and watch 23 + r sees the steps that are
+// refused with r. The open calls come last; what stands before them is lent a buffer of 512 words, as a list's steps are.
+ghost use mathlib.Core.Path.{_≡_};
+ghost use Prim.Native.Nat.{_≤_, _<_};
+ghost use lib.ListN.{length};
+ghost use Rattle.step.specs.Touches.{reach};
+ghost use Rattle.step.specs.declared.Reading.{Reading};
+ghost use Rattle.lists.specs.Words.{part};
+ghost use Rattle.verdict.specs.Watches.{Watch};
+ghost use Rattle.verdict.specs.Counted.{counted, see, count, stepAt};
+ghost use Rattle.verdict.specs.Equal.{plain, plainOf, wordsOf, same};
+ghost use Rattle.verdict.specs.Compared.{Next, Watched, Stands, Compared};
+use lists::BUFFER_WORDS;
+use lists::STEP_WORDS;
+use step::Reading;
+use step::Step;
+use step::Verdict;
+
+const LAST_STATION: u32 = 23;
+
+const LAST_WATCH: u32 = 34;
+
+// A step as six words: its kind and its fields, and then 0; a refusal is 0 and its number.
+struct Plain {
+    kind: u32,
+    p: u32,
+    q: u32,
+    r: u32,
+    s: u32,
+    t: u32,
+}
+
+// Parted: the watch, and the places in the first list and in the second where it parts.
+pub enum Comparison {
+    Same,
+    Parted {
+        watch: u32,
+        first: usize,
+        second: usize,
+    },
+}
+
+// The step reaches station k by its fields.
+fn reaches(step: Step, k: u32) -> bool
+    ensures { λ r. ⌜ r ≡ reach step k ⌝ }
+{
+    match step {
+        Step::Command { n, a, f, w } => n == k,
+        Step::Front { n, a, v } => n == k,
+        Step::Z => true,
+        Step::C => true,
+        Step::Inhibit { v } => true,
+        Step::LookAtMe => true,
+        Step::Scan { n, a, f, to, limit } => n <= k && k <= to,
+        Step::Repeat {
+            n,
+            a,
+            f,
+            limit,
+            tries,
+        } => n == k,
+        Step::Stop { n, a, f, limit } => n == k,
+    }
+}
+
+// Watch k sees a step that may be done.
+fn sees_good(step: Step, k: u32) -> bool
+    requires { ⌜ counted (Reading.Good step) ≡ Reading.Good step ⌝ }
+    ensures { λ r. ⌜ r ≡ see k (Reading.Good step) ⌝ }
+{
+    if k > LAST_STATION {
+        return false;
+    }
+    reaches(step, k)
+}
+
+// Watch k sees the step.
+fn sees(reading: Reading, k: u32) -> bool
+    requires { ⌜ counted reading ≡ reading ⌝ }
+    ensures { λ r. ⌜ r ≡ see k reading ⌝ }
+{
+    match reading {
+        Reading::Good(s) => sees_good(s, k),
+        Reading::Bad(q) => k == LAST_STATION + step::refusal_number(q),
+    }
+}
+
+// What a step counts as: itself, or its refusal.
+fn judged(step: Step, lent: &[u32]) -> Reading
+    requires { ⌜ length (now lent) ≡ 512 ⌝ }
+    ensures { λ r. ⌜ r ≡ counted (Reading.Good step) ⌝ }
+{
+    let verdict = step::judge(step, lent);
+    match verdict {
+        Verdict::Fine => Reading::Good(step),
+        Verdict::Refuse(q) => Reading::Bad(q),
+    }
+}
+
+// What step k of a list counts as.
+fn step_at(words: &[u32], k: usize, lent: &[u32]) -> Reading
+    requires { ⌜ (k < count (now words)) × (length (now lent) ≡ 512) ⌝ }
+    ensures { λ r. ⌜ r ≡ stepAt (now (words .entry)) k ⌝ }
+{
+    let at = STEP_WORDS * k;
+    let to = at + STEP_WORDS;
+    let reading = lists::read_step(&words[at..to]);
+    match reading {
+        Reading::Good(s) => judged(s, lent),
+        Reading::Bad(q) => Reading::Bad(q),
+    }
+}
+
+// The six words of a step without fields.
+fn bare(kind: u32) -> Plain
+    ensures { λ r. ⌜ r ≡ plain kind 0 0 0 0 0 ⌝ }
+{
+    Plain {
+        kind: kind,
+        p: 0,
+        q: 0,
+        r: 0,
+        s: 0,
+        t: 0,
+    }
+}
+
+// The six words of a step.
+fn plain_step(step: Step) -> Plain
+    ensures { λ r. ⌜ r ≡ plainOf (Reading.Good step) ⌝ }
+{
+    match step {
+        Step::Command { n, a, f, w } => Plain {
+            kind: 1,
+            p: n,
+            q: a,
+            r: f,
+            s: w,
+            t: 0,
+        },
+        Step::Front { n, a, v } => Plain {
+            kind: 2,
+            p: n,
+            q: a,
+            r: v,
+            s: 0,
+            t: 0,
+        },
+        Step::Z => bare(3),
+        Step::C => bare(4),
+        Step::Inhibit { v } => Plain {
+            kind: 5,
+            p: v,
+            q: 0,
+            r: 0,
+            s: 0,
+            t: 0,
+        },
+        Step::LookAtMe => bare(6),
+        Step::Scan { n, a, f, to, limit } => Plain {
+            kind: 7,
+            p: n,
+            q: a,
+            r: f,
+            s: to,
+            t: limit,
+        },
+        Step::Repeat {
+            n,
+            a,
+            f,
+            limit,
+            tries,
+        } => Plain {
+            kind: 8,
+            p: n,
+            q: a,
+            r: f,
+            s: limit,
+            t: tries,
+        },
+        Step::Stop { n, a, f, limit } => Plain {
+            kind: 9,
+            p: n,
+            q: a,
+            r: f,
+            s: limit,
+            t: 0,
+        },
+    }
+}
+
+// The six words of a reading.
+fn plain_of(reading: Reading) -> Plain
+    ensures { λ r. ⌜ r ≡ plainOf reading ⌝ }
+{
+    match reading {
+        Reading::Good(s) => plain_step(s),
+        Reading::Bad(q) => Plain {
+            kind: 0,
+            p: step::refusal_number(q),
+            q: 0,
+            r: 0,
+            s: 0,
+            t: 0,
+        },
+    }
+}
+
+// The six words are equal.
+fn same(x: Plain, y: Plain) -> bool
+    ensures { λ r. ⌜ r ≡ same x y ⌝ }
+{
+    if x.kind != y.kind {
+        return false;
+    }
+    if x.p != y.p {
+        return false;
+    }
+    if x.q != y.q {
+        return false;
+    }
+    if x.r != y.r {
+        return false;
+    }
+    if x.s != y.s {
+        return false;
+    }
+    x.t == y.t
+}
+
+// Six words as they stand.
+fn words_of(words: &[u32]) -> Plain
+    requires { ⌜ length (now words) ≡ 6 ⌝ }
+    ensures { λ r. ⌜ r ≡ wordsOf (now (words .entry)) ⌝ }
+{
+    Plain {
+        kind: words[0],
+        p: words[1],
+        q: words[2],
+        r: words[3],
+        s: words[4],
+        t: words[5],
+    }
+}
+
+// The words of step k of a list, as they stand.
+fn words_at(words: &[u32], k: usize) -> Plain
+    requires { ⌜ k < count (now words) ⌝ }
+    ensures { λ r. ⌜ r ≡ wordsOf (part 6 (now (words .entry)) k) ⌝ }
+{
+    let at = STEP_WORDS * k;
+    let to = at + STEP_WORDS;
+    words_of(&words[at..to])
+}
+
+// Step i of the first list and step j of the second are equal steps. Most that are equal have equal words, and need not be judged.
+fn equal(first: &[u32], i: usize, second: &[u32], j: usize, lent: &[u32]) -> bool
+    requires { ⌜ (i < count (now first)) × (j < count (now second)) × (length (now lent) ≡ 512) ⌝ }
+    ensures { λ r. ⌜ r ≡ same (plainOf (stepAt (now (first .entry)) i)) (plainOf (stepAt (now (second .entry)) j)) ⌝ }
+{
+    let u = words_at(first, i);
+    let w = words_at(second, j);
+    let alike = same(u, w);
+    if alike {
+        return true;
+    }
+    let x = plain_of(step_at(first, i, lent));
+    let y = plain_of(step_at(second, j, lent));
+    same(x, y)
+}
+
+// The first place from `from` on whose step watch k sees, or the number of steps.
+fn next(words: &[u32], from: usize, k: u32, lent: &[u32]) -> usize
+    requires { ⌜ (from ≤ count (now words)) × (length (now lent) ≡ 512) ⌝ }
+    ensures { λ r. ⌜ Next (now (words .entry)) k from r ⌝ }
+{
+    let end = words.len() / STEP_WORDS;
+    let mut i = from;
+    while i < end {
+        let seen = sees(step_at(words, i, lent), k);
+        if seen {
+            return i;
+        }
+        i += 1;
+    }
+    end
+}
+
+// What watch k sees of the two lists, with a cursor in each.
+fn walk(first: &[u32], second: &[u32], k: u32, lent: &[u32]) -> Comparison
+    requires { ⌜ Watch k × (length (now lent) ≡ 512) ⌝ }
+    ensures { λ r. ⌜ Watched (now (first .entry)) (now (second .entry)) k r ⌝ }
+{
+    let m = first.len() / STEP_WORDS;
+    let n = second.len() / STEP_WORDS;
+    let mut i = 0;
+    let mut j = 0;
+    loop {
+        let x = next(first, i, k, lent);
+        let y = next(second, j, k, lent);
+        if x == m {
+            if y == n {
+                return Comparison::Same;
+            }
+            return Comparison::Parted {
+                watch: k,
+                first: x,
+                second: y,
+            };
+        }
+        if y == n {
+            return Comparison::Parted {
+                watch: k,
+                first: x,
+                second: y,
+            };
+        }
+        let e = equal(first, x, second, y, lent);
+        if !e {
+            return Comparison::Parted {
+                watch: k,
+                first: x,
+                second: y,
+            };
+        }
+        i = x + 1;
+        j = y + 1;
+    }
+}
+
+// The watches one after the other, up to the first that parts.
+fn walk_all(first: &[u32], second: &[u32], lent: &[u32]) -> Comparison
+    requires { ⌜ length (now lent) ≡ 512 ⌝ }
+    ensures { λ r. ⌜ Compared (now (first .entry)) (now (second .entry)) r ⌝ }
+{
+    let mut k: u32 = 1;
+    while k <= LAST_WATCH {
+        let v = walk(first, second, k, lent);
+        match v {
+            Comparison::Same => {}
+            Comparison::Parted {
+                watch: n,
+                first: i,
+                second: j,
+            } => {
+                return Comparison::Parted {
+                    watch: n,
+                    first: i,
+                    second: j,
+                };
+            }
+        }
+        k += 1;
+    }
+    Comparison::Same
+}
+
+// The first place from `from` on where the second list has step i of the first, or the number of its steps.
+fn seek(first: &[u32], i: usize, second: &[u32], from: usize, lent: &[u32]) -> usize
+    requires { ⌜ (i < count (now first)) × (from ≤ count (now second)) × (length (now lent) ≡ 512) ⌝ }
+    ensures { λ r. ⌜ Stands (now (first .entry)) i (now (second .entry)) from r ⌝ }
+{
+    let end = second.len() / STEP_WORDS;
+    let mut j = from;
+    while j < end {
+        let e = equal(first, i, second, j, lent);
+        if e {
+            return j;
+        }
+        j += 1;
+    }
+    end
+}
+
+// IS THE SECOND LIST A LAWFUL REARRANGEMENT OF THE FIRST? If not, where does the first watch that parts see them part?
+pub fn compare(first: &[u32], second: &[u32]) -> Comparison
+    ensures { λ r. ⌜ Compared (now (first .entry)) (now (second .entry)) r ⌝ }
+{
+    let lent = [0u32; BUFFER_WORDS];
+    walk_all(first, second, &lent)
+}
+
+// What watch k alone says of the two lists; what is no watch says Same.
+pub fn watch(first: &[u32], second: &[u32], k: u32) -> Comparison
+    ensures { λ r. ⌜ Watched (now (first .entry)) (now (second .entry)) k r ⌝ }
+{
+    if k < 1 {
+        return Comparison::Same;
+    }
+    if k > LAST_WATCH {
+        return Comparison::Same;
+    }
+    let lent = [0u32; BUFFER_WORDS];
+    walk(first, second, k, &lent)
+}
+
+// The first place from `from` on where the second list has step i of the first; where there is none, the number of its steps. So a step that is due at
+// a parting is found where it stands instead.
+pub fn find(first: &[u32], i: usize, second: &[u32], from: usize) -> usize
+    ensures { λ r. ⌜ Stands (now (first .entry)) i (now (second .entry)) from r ⌝ }
+{
+    let end = second.len() / STEP_WORDS;
+    if i >= first.len() / STEP_WORDS {
+        return end;
+    }
+    if from >= end {
+        return end;
+    }
+    let lent = [0u32; BUFFER_WORDS];
+    seek(first, i, second, from, &lent)
+}
