@@ -118,6 +118,23 @@ refused-equal (Bad q) (Bad p) hr hs l e = ap Bad (number-injective q p e)
 refused-equal (Good s) t hr hs l e = absurd (let z : refusalOf (Good s) ≡ 0 = ap verdictNumber (good-fine s hr) in omega (arith, l, z))
 refused-equal (Bad q) (Good s) hr hs l e = absurd (let z : refusalOf (Good s) ≡ 0 = ap verdictNumber (good-fine s hs) in omega (arith, l, e, z))
 
+-- ---- a step, judged and read
+pub judged-good : (s : Step) (b : List ℕ) (v : Verdict) → length b ≡ 512 → v ≡ stepVerdict s b → v ≡ Fine → Good s ≡ counted (Good s)
+judged-good s b v l e f = sym (counted-fine (Good s) (sym (judged-lent (Good s) b l) ∙ sym e ∙ f))
+
+pub judged-bad : (s : Step) (b : List ℕ) (v : Verdict) (q : Refusal) → length b ≡ 512 → v ≡ stepVerdict s b → v ≡ Refuse q → Bad q ≡ counted (Good s)
+judged-bad s b v q l e f = sym (counted-refused (Good s) q (sym (judged-lent (Good s) b l) ∙ sym e ∙ f))
+
+pub bad-counts : (q : Refusal) → Bad q ≡ counted (Bad q)
+bad-counts q = sym (counted-refused (Bad q) q refl)
+
+pub step-read : (ws : List ℕ) (k : ℕ) (reading t r : Reading) → reading ≡ readingOf (midOf (6 * k) (6 * k + 6 - 6 * k) ws) → reading ≡ t → r ≡ counted t
+    → r ≡ stepAt ws k
+step-read ws k reading t r e h c = c ∙ ap counted (sym h ∙ e ∙ ap readingOf (part-lent 6 ws k))
+
+pub step-counts : (ws : List ℕ) (k : ℕ) (r : Reading) → r ≡ stepAt ws k → counted r ≡ r
+step-counts ws k r e = ap counted e ∙ counted-again (readingOf (part 6 ws k)) ∙ sym e
+
 -- ---- which watches see it
 pub see-good : (s : Step) (k : ℕ) → counted (Good s) ≡ Good s → k ≤ 23 → see k (Good s) ≡ reach s k
 see-good s k h l = sees-station touchesLent refusalOf k (Good s) l ∙ ap (λ (v : Verdict). isFine v && reach s k) (good-fine s h)
@@ -141,29 +158,46 @@ see-bad q k = go (decLt 23 k)
         at (yes e) = eq-eqb (refusalNumber q) (k - 23) e ∙ sym (eq-eqb k (23 + refusalNumber q) (omega (arith, e, b)))
         at (no e) = ne-eqb (refusalNumber q) (k - 23) e ∙ sym (ne-eqb k (23 + refusalNumber q) (λ f. e (omega (arith, f, b))))
 
+-- a station sees a step where it may be done and reaches the station
+see-counted : (s : Step) (k : ℕ) (v : Verdict) → k ≤ 23 → verdictOf (Good s) lent ≡ v → see k (counted (Good s)) ≡ isFine v && reach s k
+see-counted s k Fine l e = let c : counted (Good s) ≡ Good s = counted-fine (Good s) e in ap (see k) c ∙ see-good s k c l
+see-counted s k (Refuse q) l e =
+    ap (see k) (counted-refused (Good s) q e) ∙ see-bad q k ∙ ne-eqb k (23 + refusalNumber q) (λ f. omega (arith, f, l, number-bounds q .0))
+
+pub see-unreached : (s : Step) (k : ℕ) (t : Bool) → k ≤ 23 → t ≡ reach s k → t ≡ false → false ≡ see k (counted (Good s))
+see-unreached s k t l e f =
+    sym (see-counted s k (verdictOf (Good s) lent) l refl ∙ ap (λ (b : Bool). isFine (verdictOf (Good s) lent) && b) (sym e ∙ f) ∙ never (isFine (verdictOf (Good s) lent)))
+  where
+    never : (b : Bool) → b && false ≡ false
+    never true = refl
+    never false = refl
+
+pub see-judged : (s : Step) (k : ℕ) (b : List ℕ) (t : Bool) (v w : Verdict) → k ≤ 23 → length b ≡ 512 → t ≡ reach s k → t ≡ true → v ≡ stepVerdict s b → v ≡ w
+    → isFine w ≡ see k (counted (Good s))
+see-judged s k b t v w l n e f g h =
+    sym (see-counted s k w l (sym (judged-lent (Good s) b n) ∙ sym g ∙ h) ∙ ap (λ (b : Bool). isFine w && b) (sym e ∙ f) ∙ alone (isFine w))
+  where
+    alone : (b : Bool) → b && true ≡ b
+    alone true = refl
+    alone false = refl
+
+-- a step that is no step is seen by no station
+pub see-no-step : (ws : List ℕ) (i k : ℕ) (reading : Reading) (q : Refusal) → k ≤ 23 → reading ≡ readingOf (midOf (6 * i) (6 * i + 6 - 6 * i) ws) → reading ≡ Bad q
+    → false ≡ see k (stepAt ws i)
+see-no-step ws i k reading q l e h =
+    sym (ap (see k) (sym (step-read ws i reading (Bad q) (Bad q) e h (bad-counts q))) ∙ see-bad q k
+    ∙ ne-eqb k (23 + refusalNumber q) (λ f. omega (arith, f, l, number-bounds q .0)))
+
+pub see-step : (ws : List ℕ) (i k : ℕ) (reading : Reading) (s : Step) (t : Bool) → reading ≡ readingOf (midOf (6 * i) (6 * i + 6 - 6 * i) ws) → reading ≡ Good s
+    → t ≡ see k (counted (Good s)) → t ≡ see k (stepAt ws i)
+see-step ws i k reading s t e h g = g ∙ ap (see k) (step-read ws i reading (Good s) (counted (Good s)) e h refl)
+
 -- a refusal's number, and the watch that it makes
 pub number-small : (q : Refusal) (x : ℕ) → x ≡ refusalNumber q → x ≤ 11
 number-small q x e = omega (arith, e, number-bounds q .1)
 
 pub see-refused : (r : Reading) (q : Refusal) (k x : ℕ) → r ≡ Bad q → x ≡ refusalNumber q → eqb k (23 + x) ≡ see k r
 see-refused r q k x er ex = ap (λ (n : ℕ). eqb k (23 + n)) ex ∙ sym (see-bad q k) ∙ ap (see k) (sym er)
-
--- ---- a step, judged and read
-pub judged-good : (s : Step) (b : List ℕ) (v : Verdict) → length b ≡ 512 → v ≡ stepVerdict s b → v ≡ Fine → Good s ≡ counted (Good s)
-judged-good s b v l e f = sym (counted-fine (Good s) (sym (judged-lent (Good s) b l) ∙ sym e ∙ f))
-
-pub judged-bad : (s : Step) (b : List ℕ) (v : Verdict) (q : Refusal) → length b ≡ 512 → v ≡ stepVerdict s b → v ≡ Refuse q → Bad q ≡ counted (Good s)
-judged-bad s b v q l e f = sym (counted-refused (Good s) q (sym (judged-lent (Good s) b l) ∙ sym e ∙ f))
-
-pub bad-counts : (q : Refusal) → Bad q ≡ counted (Bad q)
-bad-counts q = sym (counted-refused (Bad q) q refl)
-
-pub step-read : (ws : List ℕ) (k : ℕ) (reading t r : Reading) → reading ≡ readingOf (midOf (6 * k) (6 * k + 6 - 6 * k) ws) → reading ≡ t → r ≡ counted t
-    → r ≡ stepAt ws k
-step-read ws k reading t r e h c = c ∙ ap counted (sym h ∙ e ∙ ap readingOf (part-lent 6 ws k))
-
-pub step-counts : (ws : List ℕ) (k : ℕ) (r : Reading) → r ≡ stepAt ws k → counted r ≡ r
-step-counts ws k r e = ap counted e ∙ counted-again (readingOf (part 6 ws k)) ∙ sym e
 
 -- ---- the six words tell the step
 pub plain-refused : (r : Reading) (q : Refusal) (x : ℕ) → r ≡ Bad q → x ≡ refusalNumber q → plain 0 x 0 0 0 0 ≡ plainOf r

@@ -112,6 +112,47 @@ fn step_at(words: &[u32], k: usize, lent: &[u32]) -> Reading
     }
 }
 
+// Watch k, a station, sees what the step counts as. Few steps reach a station, so the fields are judged last.
+fn touches(step: Step, k: u32, lent: &[u32]) -> bool
+    requires { ⌜ (length (now lent) ≡ 512) × (k ≤ 23) ⌝ }
+    ensures { λ r. ⌜ r ≡ see k (counted (Reading.Good step)) ⌝ }
+{
+    let reached = reaches(step, k);
+    if !reached {
+        return false;
+    }
+    let verdict = step::judge(step, lent);
+    match verdict {
+        Verdict::Fine => true,
+        Verdict::Refuse(_) => false,
+    }
+}
+
+// Watch k, a station, sees step i of a list.
+fn touches_at(words: &[u32], i: usize, k: u32, lent: &[u32]) -> bool
+    requires { ⌜ (i < count (now words)) × (length (now lent) ≡ 512) × (k ≤ 23) ⌝ }
+    ensures { λ r. ⌜ r ≡ see k (stepAt (now (words .entry)) i) ⌝ }
+{
+    let at = STEP_WORDS * i;
+    let to = at + STEP_WORDS;
+    let reading = lists::read_step(&words[at..to]);
+    match reading {
+        Reading::Good(s) => touches(s, k, lent),
+        Reading::Bad(_) => false,
+    }
+}
+
+// Watch k sees step i of a list.
+fn sees_at(words: &[u32], i: usize, k: u32, lent: &[u32]) -> bool
+    requires { ⌜ (i < count (now words)) × (length (now lent) ≡ 512) ⌝ }
+    ensures { λ r. ⌜ r ≡ see k (stepAt (now (words .entry)) i) ⌝ }
+{
+    if k <= LAST_STATION {
+        return touches_at(words, i, k, lent);
+    }
+    sees(step_at(words, i, lent), k)
+}
+
 // The six words of a step without fields.
 fn bare(kind: u32) -> Plain
     ensures { λ r. ⌜ r ≡ plain kind 0 0 0 0 0 ⌝ }
@@ -279,7 +320,7 @@ fn next(words: &[u32], from: usize, k: u32, lent: &[u32]) -> usize
     let end = words.len() / STEP_WORDS;
     let mut i = from;
     while i < end {
-        let seen = sees(step_at(words, i, lent), k);
+        let seen = sees_at(words, i, k, lent);
         if seen {
             return i;
         }

@@ -1,13 +1,12 @@
--- `next` meets its contract: the steps passed over are not seen by the watch (`Looking`).
--- Assumes nothing.
-use mathlib.Core.Path.{ap, _∙_}
-use Prim.Native.Nat.{_-_}
-use native.Mathlib.Omega.{arith}
-use Rattle.verdict.specs.Counted.{see, count}
 use Rattle.verdict.proofs.Walks.{Looking, looking-start, looking-more, looking-found, looking-end}
-use Rattle.verdict.proofs.CountedLaws.{step-counts}
+use Rattle.verdict.specs.Counted.{count}
+use native.Mathlib.Omega.{arith}
+use Prim.Native.Nat.{_-_}
 use Rattle.verdict.proofs.next.Statement.{statement}
 use Rattle.verdict.proofs.next.Tie as tie
+use Rattle.verdict.proofs.next.Reads as reads
+use Rattle.verdict.proofs.next.Lts as lts
+use Rattle.verdict.proofs.sees_at.Reads as sees-at-reads
 
 abbrev Inv-loop : tie.InvT-loop
 Inv-loop words from k lent end i₀ i = Looking words k from i
@@ -15,33 +14,33 @@ Inv-loop words from k lent end i₀ i = Looking words k from i
 abbrev μ-loop : tie.MeasureT-loop
 μ-loop words from k lent end i₀ i = count words - i
 
+-- src/lib.rt:322:5
 loop-holds : tie.Need-loop-holds Inv-loop μ-loop
-loop-holds c = looking-start _ _ _ (c .before .before .pre .0)
+loop-holds c = looking-start _ _ _ ((c .before .before .pre .0))
 
-step-at-requires : tie.Need-step-at-requires Inv-loop μ-loop
-step-at-requires c κs = ((c .loop-test .taken), (c .before .before .before .before .pre .1))
+-- src/lib.rt:323:13
+sees-at-requires : tie.Need-sees-at-requires Inv-loop μ-loop
+sees-at-requires c κs = ((c .loop-test .taken), (c .before .before .before .before .pre .1))
 
-sees-requires : tie.Need-sees-requires Inv-loop μ-loop
-sees-requires c κs = step-counts (c .before .before .before .before .before .args .words .now) (c .before .before .loop .i) _ (c .step-at .ensures)
-
+-- src/lib.rt:325:13
 returns : tie.Need-returns Inv-loop μ-loop
-returns c = looking-found _ _ _ _ _
-    ((c .before .sees .ensures) ∙ ap (see (c .before .before .before .before .before .before .before .args .k)) (c .before .before .step-at .ensures))
-    (c .if1 .taken) (c .before .before .before .before .loop .inv)
+returns c = looking-found _ _ _ _ _ ((c .before .sees-at .ensures)) ((c .if1 .taken)) ((c .before .before .before .loop .inv))
 
+-- src/lib.rt:327:9
 add-i : tie.Need-add-i Inv-loop μ-loop
-add-i c = omega (arith, (c .before .before .before .loop-test .taken), (c .before .before .before .before .before .before .before .good))
+add-i c = omega (arith, (c .before .before .loop-test .taken), (c .before .before .before .before .before .before .good))
 
+-- src/lib.rt:322:5
 loop-less : tie.Need-loop-less Inv-loop μ-loop
-loop-less c = omega (arith, (c .before .before .before .loop-test .taken))
+loop-less c = omega (arith, (c .before .before .loop-test .taken))
 
+-- src/lib.rt:322:5
 loop-again : tie.Need-loop-again Inv-loop μ-loop
-loop-again c = looking-more _ _ _ _ _ (c .before .before .before .loop-test .taken)
-    ((c .before .sees .ensures) ∙ ap (see (c .before .before .before .before .before .before .before .args .k)) (c .before .before .step-at .ensures))
-    (c .if1 .left) (c .before .before .before .before .loop .inv)
+loop-again c = looking-more _ _ _ _ _ ((c .before .before .loop-test .taken)) ((c .before .sees-at .ensures)) ((c .if1 .left)) ((c .before .before .before .loop .inv))
 
+-- src/lib.rt:316:1
 returns-2 : tie.Need-returns-2 Inv-loop μ-loop
-returns-2 c = looking-end _ _ _ _ (c .loop-test .left) (c .before .loop .inv)
+returns-2 c = looking-end _ _ _ _ ((c .loop-test .left)) ((c .before .loop .inv))
 
 pub next-spec : {M : Type 1} → statement M
 next-spec =
@@ -50,8 +49,7 @@ next-spec =
     Inv-loop
     μ-loop
     loop-holds
-    step-at-requires
-    sees-requires
+    sees-at-requires
     returns
     add-i
     loop-less
