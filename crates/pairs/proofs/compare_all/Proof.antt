@@ -1,3 +1,4 @@
+-- `compare_all` meets its contract: the buffers keep their lengths, and k goes up to the last pair.
 use lib.ListN.{length}
 use mathlib.Core.Path.{_≡_, refl}
 use Prim.Native.Nat.{_-_}
@@ -5,9 +6,6 @@ use borrow.Author.Needs.{needs}
 use native.Mathlib.Omega.{arith}
 use Rattle.pairs.proofs.compare_all.Statement.{statement}
 use Rattle.pairs.proofs.compare_all.Tie as tie
-use Rattle.pairs.proofs.compare_all.Reads as reads
-use Rattle.pairs.proofs.compare_all.Lts as lts
-use Rattle.pairs.proofs.compare_pair.Reads as compare-pair-reads
 
 abbrev Inv-loop : tie.InvT-loop
 Inv-loop text₀ line₀ first₀ second₀ out₀ k₀ text line first second out k = (length text ≡ length text₀) × (length line ≡ length line₀) × (length first ≡ length first₀) × (length second ≡ length second₀) × (length out ≡ length out₀)
@@ -15,47 +13,36 @@ Inv-loop text₀ line₀ first₀ second₀ out₀ k₀ text line first second o
 abbrev μ-loop : tie.MeasureT-loop
 μ-loop text₀ line₀ first₀ second₀ out₀ k₀ text line first second out k = 21 - k
 
--- src/main.rt:37:5
 loop-holds : tie.Need-loop-holds Inv-loop μ-loop
 loop-holds c = (refl, refl, refl, refl, refl)
 
--- src/main.rt:38:9
 compare-pair-requires : tie.Need-compare-pair-requires Inv-loop μ-loop
 compare-pair-requires c κs = (omega (arith, (c .before .before .before .before .before .before .loop .inv .1), (c .before .before .before .before .before .before .before .before .before .before .before .before .pre .0)), omega (arith, (c .before .before .before .before .before .before .loop .inv .2), (c .before .before .before .before .before .before .before .before .before .before .before .before .pre .1)), omega (arith, (c .before .before .before .before .before .before .loop .inv .3), (c .before .before .before .before .before .before .before .before .before .before .before .before .pre .2)), omega (arith, (c .before .before .before .before .before .before .loop .inv .4), (c .before .before .before .before .before .before .before .before .before .before .before .before .pre .3)))
 
--- src/main.rt:39:9
 add-k : tie.Need-add-k Inv-loop μ-loop
 add-k c = omega arith
 
--- src/main.rt:37:5
 loop-less : tie.Need-loop-less Inv-loop μ-loop
 loop-less c = omega arith
 
--- src/main.rt:37:5
 loop-again : tie.Need-loop-again Inv-loop μ-loop
 loop-again c = (omega (arith, (c .before .before .before .before .before .before .before .before .before .before .before .before .before .before .before .before .before .loop .inv .0), (c .before .before .before .before .before .before .before .before .before .before .compare-pair .kept)), omega (arith, (c .before .before .before .before .before .before .before .before .before .before .before .before .before .before .before .before .before .loop .inv .1), (c .before .before .before .before .before .before .before .before .before .before .compare-pair .kept)), omega (arith, (c .before .before .before .before .before .before .before .before .before .before .before .before .before .before .before .before .before .loop .inv .2), (c .before .before .before .before .before .before .before .before .before .before .compare-pair .kept)), omega (arith, (c .before .before .before .before .before .before .before .before .before .before .before .before .before .before .before .before .before .loop .inv .3), (c .before .before .before .before .before .before .before .before .before .before .compare-pair .kept)), omega (arith, (c .before .before .before .before .before .before .before .before .before .before .before .before .before .before .before .before .before .loop .inv .4), (c .before .before .before .before .before .before .before .before .before .before .compare-pair .kept)))
 
--- src/main.rt:33:1
 same-length : tie.Need-same-length Inv-loop μ-loop
 same-length c = omega (arith, (c .before .loop .inv .0))
 
--- src/main.rt:33:1
 same-length-2 : tie.Need-same-length-2 Inv-loop μ-loop
 same-length-2 c = omega (arith, (c .before .loop .inv .1))
 
--- src/main.rt:33:1
 same-length-3 : tie.Need-same-length-3 Inv-loop μ-loop
 same-length-3 c = omega (arith, (c .before .loop .inv .2))
 
--- src/main.rt:33:1
 same-length-4 : tie.Need-same-length-4 Inv-loop μ-loop
 same-length-4 c = omega (arith, (c .before .loop .inv .3))
 
--- src/main.rt:33:1
 same-length-5 : tie.Need-same-length-5 Inv-loop μ-loop
 same-length-5 c = omega (arith, (c .before .loop .inv .4))
 
--- src/main.rt:33:1
 returns : tie.Need-returns Inv-loop μ-loop
 returns c = search needs
 

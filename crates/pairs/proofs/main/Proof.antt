@@ -1,48 +1,35 @@
+-- `main` meets its contract: its arrays are as long as `compare_all` asks.
 use lib.ListN.{length-replicate}
 use Prim.Native.Nat.{ℕ}
 use native.Mathlib.Omega.{arith}
 use borrow.Author.Needs.{needs}
 use Rattle.pairs.proofs.main.Statement.{statement}
 use Rattle.pairs.proofs.main.Tie as tie
-use Rattle.pairs.proofs.main.Reads as reads
-use Rattle.pairs.proofs.main.Lts as lts
-use Rattle.io.proofs.buffer.Reads as buffer-reads
-use Rattle.io.proofs.large_buffer.Reads as large-buffer-reads
-use Rattle.pairs.proofs.compare_all.Reads as compare-all-reads
 
--- src/main.rt:44:20
 large-buffer-requires : tie.Need-large-buffer-requires
 large-buffer-requires c κs = search needs
 
--- src/main.rt:48:19
 buffer-requires : tie.Need-buffer-requires
 buffer-requires c κs = search needs
 
--- src/main.rt:49:17
 slice-aggregate-compare-all : tie.Need-slice-aggregate-compare-all
 slice-aggregate-compare-all c = search needs
 
--- src/main.rt:49:28
 slice-aggregate-compare-all-2 : tie.Need-slice-aggregate-compare-all-2
 slice-aggregate-compare-all-2 c = search needs
 
--- src/main.rt:49:39
 slice-aggregate-compare-all-3 : tie.Need-slice-aggregate-compare-all-3
 slice-aggregate-compare-all-3 c = search needs
 
--- src/main.rt:49:51
 slice-aggregate-compare-all-4 : tie.Need-slice-aggregate-compare-all-4
 slice-aggregate-compare-all-4 c = search needs
 
--- src/main.rt:49:64
 slice-aggregate-compare-all-5 : tie.Need-slice-aggregate-compare-all-5
 slice-aggregate-compare-all-5 c = search needs
 
--- src/main.rt:49:5
 compare-all-requires : tie.Need-compare-all-requires
 compare-all-requires c κs = (length-replicate {A = ℕ} 81 0, length-replicate {A = ℕ} 599994 0, length-replicate {A = ℕ} 599994 0, omega (arith, (c .before .before .before .before .before .buffer .ensures)))
 
--- src/main.rt:43:1
 returns : tie.Need-returns
 returns c = search needs
 

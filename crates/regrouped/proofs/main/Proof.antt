@@ -1,56 +1,41 @@
+-- `main` meets its contract: its arrays are as long as `compare_files` asks.
 use lib.ListN.{length-replicate}
 use Prim.Native.Nat.{ℕ}
 use native.Mathlib.Omega.{arith}
 use borrow.Author.Needs.{needs}
 use Rattle.regrouped.proofs.main.Statement.{statement}
 use Rattle.regrouped.proofs.main.Tie as tie
-use Rattle.regrouped.proofs.main.Reads as reads
-use Rattle.regrouped.proofs.main.Lts as lts
-use Rattle.io.proofs.buffer.Reads as buffer-reads
-use Rattle.io.proofs.large_buffer.Reads as large-buffer-reads
-use Rattle.regrouping.proofs.compare_files.Reads as compare-files-reads
 
--- src/main.rt:6:20
 large-buffer-requires : tie.Need-large-buffer-requires
 large-buffer-requires c κs = search needs
 
--- src/main.rt:10:19
 buffer-requires : tie.Need-buffer-requires
 buffer-requires c κs = search needs
 
--- src/main.rt:12:9
 slice-aggregate-compare-files : tie.Need-slice-aggregate-compare-files
 slice-aggregate-compare-files c = search needs
 
--- src/main.rt:13:9
 slice-aggregate-compare-files-2 : tie.Need-slice-aggregate-compare-files-2
 slice-aggregate-compare-files-2 c = search needs
 
--- src/main.rt:14:9
 slice-aggregate-compare-files-3 : tie.Need-slice-aggregate-compare-files-3
 slice-aggregate-compare-files-3 c = search needs
 
--- src/main.rt:15:9
 slice-aggregate-compare-files-4 : tie.Need-slice-aggregate-compare-files-4
 slice-aggregate-compare-files-4 c = search needs
 
--- src/main.rt:16:9
 slice-aggregate-compare-files-5 : tie.Need-slice-aggregate-compare-files-5
 slice-aggregate-compare-files-5 c = search needs
 
--- src/main.rt:17:9
 slice-aggregate-compare-files-6 : tie.Need-slice-aggregate-compare-files-6
 slice-aggregate-compare-files-6 c = search needs
 
--- src/main.rt:18:9
 slice-aggregate-compare-files-7 : tie.Need-slice-aggregate-compare-files-7
 slice-aggregate-compare-files-7 c = search needs
 
--- src/main.rt:11:5
 compare-files-requires : tie.Need-compare-files-requires
 compare-files-requires c κs = (length-replicate {A = ℕ} 81 0, length-replicate {A = ℕ} 599994 0, length-replicate {A = ℕ} 599994 0, omega (arith, (c .before .before .before .before .before .before .before .buffer .ensures)))
 
--- src/main.rt:5:1
 returns : tie.Need-returns
 returns c = search needs
 

@@ -1,37 +1,27 @@
+-- `put_line` meets its contract: the watch sees the same (`line-same`), or parts (`line-parted`).
 use Rattle.report.proofs.ReportLaws.{line-same, line-parted}
 use borrow.Author.Needs.{needs}
 use Rattle.report.proofs.put_line.Statement.{statement}
 use Rattle.report.proofs.put_line.Tie as tie
-use Rattle.report.proofs.put_line.Reads as reads
-use Rattle.report.proofs.put_line.Lts as lts
-use Rattle.report.proofs.put_parting.Reads as put-parting-reads
-use Rattle.verdict.proofs.watch.Reads as watch-reads
 
--- src/lib.rt:76:9
 watch-requires : tie.Need-watch-requires
 watch-requires c κs = search needs
 
--- src/lib.rt:78:29
 enum-told : tie.Need-enum-told
 enum-told c = search needs
 
--- src/lib.rt:80:20
 enum-known-v : tie.Need-enum-known-v
 enum-known-v c = search needs
 
--- src/lib.rt:83:14
 put-parting-requires : tie.Need-put-parting-requires
 put-parting-requires c κs = search needs
 
--- src/lib.rt:72:1
 returns : tie.Need-returns
 returns c = line-same ((c .before .before .before .before .before .before .args .first) .now) ((c .before .before .before .before .before .before .args .second) .now) ((c .before .before .before .before .before .before .args .out) .now) ((c .before .before .before .before .before .before .args .k)) ((c .before .before .before .before .before .before .args .at)) ((c .enum-told .given .1)) ((c .before .before .watch .ensures))
 
--- src/lib.rt:72:1
 same-length : tie.Need-same-length
 same-length c = search needs
 
--- src/lib.rt:72:1
 returns-2 : tie.Need-returns-2
 returns-2 c = line-parted ((c .before .before .before .before .before .v .given .1)) ((c .before .before .before .before .before .before .before .watch .ensures)) ((c .before .before .put-parting .ensures))
 

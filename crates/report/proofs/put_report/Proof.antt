@@ -1,59 +1,42 @@
-use Rattle.report.proofs.ReportLaws.{report-same, report-parted, lines-before, lines-end}
-use native.Mathlib.Omega.{arith}
+-- `put_report` meets its contract: the lists are the same (`report-same`), or part at a first watch (`report-parted`).
+use Rattle.report.proofs.ReportLaws.{report-same, report-parted, lines-before}
 use borrow.Author.Needs.{needs}
 use Rattle.report.proofs.put_report.Statement.{statement}
 use Rattle.report.proofs.put_report.Tie as tie
-use Rattle.report.proofs.put_report.Reads as reads
-use Rattle.report.proofs.put_report.Lts as lts
-use Rattle.report.proofs.put_lines.Reads as put-lines-reads
-use Rattle.text.proofs.put_bytes.Reads as put-bytes-reads
-use Rattle.verdict.proofs.compare.Reads as compare-reads
 
--- src/lib.rt:107:9
 compare-requires : tie.Need-compare-requires
 compare-requires c κs = search needs
 
--- src/lib.rt:109:39
 enum-told : tie.Need-enum-told
 enum-told c = search needs
 
--- src/lib.rt:109:47
 slice-aggregate-put-bytes : tie.Need-slice-aggregate-put-bytes
 slice-aggregate-put-bytes c = search needs
 
--- src/lib.rt:109:29
 put-bytes-requires : tie.Need-put-bytes-requires
 put-bytes-requires c κs = search needs
 
--- src/lib.rt:111:20
 enum-known-v : tie.Need-enum-known-v
 enum-known-v c = search needs
 
--- src/lib.rt:115:17
 put-lines-requires : tie.Need-put-lines-requires
 put-lines-requires c κs = ((c .before .before .before .before .before .before .before .before .pre), lines-before ((c .before .before .before .before .before .before .before .before .args .first) .now) ((c .before .before .before .before .before .before .before .before .args .second) .now) ((c .before .before .v .given .1)) ((c .before .before .before .before .compare .ensures)))
 
--- src/lib.rt:116:32
 slice-aggregate-put-bytes-2 : tie.Need-slice-aggregate-put-bytes-2
 slice-aggregate-put-bytes-2 c = search needs
 
--- src/lib.rt:116:13
 put-bytes-requires-2 : tie.Need-put-bytes-requires-2
 put-bytes-requires-2 c κs = search needs
 
--- src/lib.rt:103:1
 same-length : tie.Need-same-length
 same-length c = search needs
 
--- src/lib.rt:103:1
 returns : tie.Need-returns
 returns c = report-same ((c .before .before .before .before .before .enum-told .given .1)) ((c .before .before .before .before .before .before .before .compare .ensures)) ((c .before .before .put-bytes .ensures))
 
--- src/lib.rt:103:1
 same-length-2 : tie.Need-same-length-2
 same-length-2 c = search needs
 
--- src/lib.rt:103:1
 returns-2 : tie.Need-returns-2
 returns-2 c = report-parted ((c .before .before .before .before .before .before .before .before .before .before .v .given .1)) ((c .before .before .before .before .before .before .before .before .before .before .before .before .compare .ensures)) ((c .before .before .before .before .before .before .before .put-lines .ensures)) ((c .before .before .put-bytes2 .ensures))
 

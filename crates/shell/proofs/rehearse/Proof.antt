@@ -1,3 +1,4 @@
+-- `rehearse` meets its contract: a refused crate file ends the work (`handed-crate`), else the run file follows it (`handed-both`).
 use Rattle.shell.proofs.HandedLaws.{failed, handed-crate, handed-both, handed-as, start-is, start-held, second-held}
 use borrow.Author.Tests.{not-false}
 use mathlib.Core.Path.{refl}
@@ -5,104 +6,76 @@ use native.Mathlib.Omega.{arith}
 use borrow.Author.Needs.{needs}
 use Rattle.shell.proofs.rehearse.Statement.{statement}
 use Rattle.shell.proofs.rehearse.Tie as tie
-use Rattle.shell.proofs.rehearse.Reads as reads
-use Rattle.shell.proofs.rehearse.Lts as lts
-use Rattle.shell.proofs.flush.Reads as flush-reads
-use Rattle.shell.proofs.take_file.Reads as take-file-reads
 
--- src/lib.rt:236:9
 take-file-requires : tie.Need-take-file-requires
 take-file-requires c κs = (start-held ((c .before .before .before .before .before .before .before .before .before .before .pre .0)) ((c .before .before .before .before .before .before .before .before .before .before .pre .2)), (c .before .before .before .before .before .before .before .before .before .before .pre .1))
 
--- src/lib.rt:238:9
 same-length : tie.Need-same-length
 same-length c = search needs
 
--- src/lib.rt:238:9
 same-length-2 : tie.Need-same-length-2
 same-length-2 c = search needs
 
--- src/lib.rt:238:9
 same-length-3 : tie.Need-same-length-3
 same-length-3 c = search needs
 
--- src/lib.rt:238:9
 same-length-4 : tie.Need-same-length-4
 same-length-4 c = search needs
 
--- src/lib.rt:238:9
 returns : tie.Need-returns
 returns c = failed ((c .before .before .before .before .before .before .before .before .before .before .take-file .result) .ok) ((c .if1 .taken))
 
--- src/lib.rt:242:9
 flush-requires : tie.Need-flush-requires
 flush-requires c κs = search needs
 
--- src/lib.rt:242:9
 same-length-5 : tie.Need-same-length-5
 same-length-5 c = search needs
 
--- src/lib.rt:242:9
 same-length-6 : tie.Need-same-length-6
 same-length-6 c = search needs
 
--- src/lib.rt:242:9
 same-length-7 : tie.Need-same-length-7
 same-length-7 c = search needs
 
--- src/lib.rt:242:9
 same-length-8 : tie.Need-same-length-8
 same-length-8 c = search needs
 
--- src/lib.rt:242:9
 returns-2 : tie.Need-returns-2
 returns-2 c = λ e. handed-as ((c .before .before .before .before .before .before .before .before .before .before .before .before .before .before .before .take-file .last) .1 .1 .1 .1 .1 .0) ((c .flush .ensures)) (handed-crate (start-is ((c .before .before .before .before .before .before .before .before .before .before .before .before .before .before .before .before .before .before .before .before .before .before .before .before .before .before .args .line) .now) ((c .before .before .before .before .before .before .before .before .before .before .before .before .before .before .before .before .before .before .before .before .before .before .before .before .before .before .args .memory) .now) ((c .before .before .before .before .before .before .before .before .before .before .before .before .before .before .before .before .before .before .before .before .before .before .before .before .before .before .args .out) .now) ((c .before .before .before .before .before .before .before .before .before .before .before .before .before .before .before .before .before .before .before .before .before .before .before .before .before .before .pre .2))) ((c .before .before .before .before .before .before .before .before .before .before .before .before .before .before .before .take-file .ensures .1) (not-false ((c .before .before .before .before .before .before .before .before .before .before .before .before .before .before .before .take-file .result) .ok) ((c .before .before .before .before .before .if1 .left)))) (omega arith))
 
--- src/lib.rt:251:9
 take-file-requires-2 : tie.Need-take-file-requires-2
 take-file-requires-2 c κs = (second-held ((c .before .before .before .before .before .before .before .before .before .before .before .before .before .before .before .before .before .take-file .ensures .0)), omega (arith, (c .before .before .before .before .before .before .before .before .before .before .before .before .before .before .before .before .before .before .before .before .before .before .before .before .before .before .before .before .pre .1)))
 
--- src/lib.rt:253:9
 same-length-9 : tie.Need-same-length-9
 same-length-9 c = omega (arith, (c .before .before .before .before .before .before .before .before .before .before .before .before .before .before .before .before .before .before .before .before .before .before .before .before .before .before .before .before .take-file .kept), (c .before .before .before .before .before .before .before .before .before .before .take-file2 .kept))
 
--- src/lib.rt:253:9
 same-length-10 : tie.Need-same-length-10
 same-length-10 c = search needs
 
--- src/lib.rt:253:9
 same-length-11 : tie.Need-same-length-11
 same-length-11 c = search needs
 
--- src/lib.rt:253:9
 same-length-12 : tie.Need-same-length-12
 same-length-12 c = search needs
 
--- src/lib.rt:253:9
 returns-3 : tie.Need-returns-3
 returns-3 c = failed ((c .before .before .before .before .before .before .before .before .before .before .take-file2 .result) .ok) ((c .if3 .taken))
 
--- src/lib.rt:255:5
 flush-requires-2 : tie.Need-flush-requires-2
 flush-requires-2 c κs = search needs
 
--- src/lib.rt:218:1
 same-length-13 : tie.Need-same-length-13
 same-length-13 c = omega (arith, (c .before .before .before .before .before .before .before .before .before .before .before .before .before .before .before .before .before .before .before .before .before .before .before .before .before .before .before .before .before .before .take-file .kept), (c .before .before .before .before .before .before .before .before .before .before .before .before .take-file2 .kept))
 
--- src/lib.rt:218:1
 same-length-14 : tie.Need-same-length-14
 same-length-14 c = omega (arith, (c .before .before .before .before .before .before .before .before .before .before .before .before .before .before .before .before .before .before .before .before .before .before .before .before .before .before .before .before .before .before .take-file .kept), (c .before .before .before .before .before .before .before .before .before .before .before .before .take-file2 .kept))
 
--- src/lib.rt:218:1
 same-length-15 : tie.Need-same-length-15
 same-length-15 c = omega (arith, (c .before .before .before .before .before .before .before .before .before .before .before .before .before .before .before .before .before .before .before .before .before .before .before .before .before .before .before .before .before .before .take-file .kept), (c .before .before .before .before .before .before .before .before .before .before .before .before .take-file2 .kept))
 
--- src/lib.rt:218:1
 same-length-16 : tie.Need-same-length-16
 same-length-16 c = omega (arith, (c .before .before .before .before .before .before .before .before .before .before .before .before .before .before .before .before .before .before .before .before .before .before .before .before .before .before .before .before .before .before .take-file .kept), (c .before .before .before .before .before .before .before .before .before .before .before .before .take-file2 .kept))
 
--- src/lib.rt:218:1
 returns-4 : tie.Need-returns-4
 returns-4 c = λ e. handed-as ((c .before .before .before .before .before .before .before .before .before .before .before .before .take-file2 .last) .1 .1 .1 .1 .1 .0) ((c .flush2 .ensures)) (handed-both (start-is ((c .before .before .before .before .before .before .before .before .before .before .before .before .before .before .before .before .before .before .before .before .before .before .before .before .before .before .before .before .before .before .before .before .before .before .before .before .before .before .before .before .before .args .line) .now) ((c .before .before .before .before .before .before .before .before .before .before .before .before .before .before .before .before .before .before .before .before .before .before .before .before .before .before .before .before .before .before .before .before .before .before .before .before .before .before .before .before .before .args .memory) .now) ((c .before .before .before .before .before .before .before .before .before .before .before .before .before .before .before .before .before .before .before .before .before .before .before .before .before .before .before .before .before .before .before .before .before .before .before .before .before .before .before .before .before .args .out) .now) ((c .before .before .before .before .before .before .before .before .before .before .before .before .before .before .before .before .before .before .before .before .before .before .before .before .before .before .before .before .before .before .before .before .before .before .before .before .before .before .before .before .before .pre .2))) ((c .before .before .before .before .before .before .before .before .before .before .before .before .before .before .before .before .before .before .before .before .before .before .before .before .before .before .before .before .before .before .take-file .ensures .1) (not-false ((c .before .before .before .before .before .before .before .before .before .before .before .before .before .before .before .before .before .before .before .before .before .before .before .before .before .before .before .before .before .before .take-file .result) .ok) ((c .before .before .before .before .before .before .before .before .before .before .before .before .before .before .before .before .before .before .before .before .if1 .left)))) (omega arith) refl ((c .before .before .before .before .before .before .before .before .before .before .before .before .take-file2 .ensures .1) (not-false ((c .before .before .before .before .before .before .before .before .before .before .before .before .take-file2 .result) .ok) ((c .before .before .if3 .left)))))
 

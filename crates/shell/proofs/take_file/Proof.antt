@@ -1,93 +1,67 @@
+-- `take_file` meets its contract: the bytes that were read, and then the file's end (`closed-both`).
 use Rattle.shell.proofs.HandedLaws.{failed, closed-both}
 use borrow.Author.Tests.{not-false}
 use borrow.Author.Needs.{needs}
 use Rattle.shell.proofs.take_file.Statement.{statement}
 use Rattle.shell.proofs.take_file.Tie as tie
-use Rattle.shell.proofs.take_file.Reads as reads
-use Rattle.shell.proofs.take_file.Lts as lts
-use Rattle.libc.proofs.close.Reads as close-reads
-use Rattle.os.proofs.open_read.Reads as open-read-reads
-use Rattle.shell.proofs.end_file.Reads as end-file-reads
-use Rattle.shell.proofs.say_unopened.Reads as say-unopened-reads
-use Rattle.shell.proofs.take_open.Reads as take-open-reads
 
--- src/lib.rt:193:9
 open-read-requires : tie.Need-open-read-requires
 open-read-requires c κs = search needs
 
--- src/lib.rt:195:9
 say-unopened-requires : tie.Need-say-unopened-requires
 say-unopened-requires c κs = search needs
 
--- src/lib.rt:196:9
 end-file-requires : tie.Need-end-file-requires
 end-file-requires c κs = search needs
 
--- src/lib.rt:196:9
 same-length : tie.Need-same-length
 same-length c = search needs
 
--- src/lib.rt:196:9
 same-length-2 : tie.Need-same-length-2
 same-length-2 c = search needs
 
--- src/lib.rt:196:9
 same-length-3 : tie.Need-same-length-3
 same-length-3 c = search needs
 
--- src/lib.rt:196:9
 returns : tie.Need-returns
 returns c = search needs
 
--- src/lib.rt:198:9
 take-open-requires : tie.Need-take-open-requires
 take-open-requires c κs = search needs
 
--- src/lib.rt:199:5
 close-requires : tie.Need-close-requires
 close-requires c κs = search needs
 
--- src/lib.rt:201:9
 same-length-4 : tie.Need-same-length-4
 same-length-4 c = search needs
 
--- src/lib.rt:201:9
 same-length-5 : tie.Need-same-length-5
 same-length-5 c = search needs
 
--- src/lib.rt:201:9
 same-length-6 : tie.Need-same-length-6
 same-length-6 c = search needs
 
--- src/lib.rt:201:9
 same-length-7 : tie.Need-same-length-7
 same-length-7 c = search needs
 
--- src/lib.rt:201:9
 returns-2 : tie.Need-returns-2
 returns-2 c = ((c .before .before .before .before .before .before .before .before .before .before .before .take-open .ensures .0), failed ((c .before .before .before .before .before .before .before .before .before .before .before .take-open .result) .ok) ((c .if2 .taken)))
 
--- src/lib.rt:203:5
 end-file-requires-2 : tie.Need-end-file-requires-2
 end-file-requires-2 c κs = search needs
 
--- src/lib.rt:180:1
 same-length-8 : tie.Need-same-length-8
 same-length-8 c = search needs
 
--- src/lib.rt:180:1
 same-length-9 : tie.Need-same-length-9
 same-length-9 c = search needs
 
--- src/lib.rt:180:1
 same-length-10 : tie.Need-same-length-10
 same-length-10 c = search needs
 
--- src/lib.rt:180:1
 same-length-11 : tie.Need-same-length-11
 same-length-11 c = search needs
 
--- src/lib.rt:180:1
 returns-3 : tie.Need-returns-3
 returns-3 c = ((c .before .before .before .before .end-file2 .ensures .0), λ e. closed-both ((c .before .before .before .before .before .before .before .before .before .before .before .before .before .before .before .before .before .before .before .take-open .ensures .1) (not-false ((c .before .before .before .before .before .before .before .before .before .before .before .before .before .before .before .before .before .before .before .take-open .result) .ok) ((c .before .before .before .before .before .before .before .before .if2 .left)))) ((c .before .before .before .before .end-file2 .ensures .1) e))
 

@@ -1,17 +1,15 @@
+-- `take_open` meets its contract: each turn takes some bytes more (`reached-both`), and the turns run down.
 use Rattle.shell.proofs.HandedLaws.{reached-none, reached-both}
 use Rattle.shell.specs.Handed.{Reached}
 use Rattle.reader.specs.Reading.{Held, stateOf}
 use lib.ListN.{length}
 use borrow.Author.Tests.{not-false}
 use mathlib.Core.Bool.{true≢false}
-use mathlib.Core.Path.{_≡_, refl, sym, _∙_}
+use mathlib.Core.Path.{_≡_, refl, sym}
 use borrow.Author.Needs.{needs}
 use native.Mathlib.Omega.{arith}
 use Rattle.shell.proofs.take_open.Statement.{statement}
 use Rattle.shell.proofs.take_open.Tie as tie
-use Rattle.shell.proofs.take_open.Reads as reads
-use Rattle.shell.proofs.take_open.Lts as lts
-use Rattle.shell.proofs.take_some.Reads as take-some-reads
 
 abbrev Inv-loop : tie.InvT-loop
 Inv-loop fd path text₀ line₀ memory₀ out₀ r₀ turns₀ text line memory out r turns = (length text ≡ length text₀) × (length line ≡ length line₀) × (length memory ≡ length memory₀) × (length out ≡ length out₀) × Held r line memory out × Reached (stateOf r₀ line₀ memory₀ out₀) (stateOf r line memory out)
@@ -19,83 +17,63 @@ Inv-loop fd path text₀ line₀ memory₀ out₀ r₀ turns₀ text line memory
 abbrev μ-loop : tie.MeasureT-loop
 μ-loop fd path text₀ line₀ memory₀ out₀ r₀ turns₀ text line memory out r turns = turns
 
--- src/lib.rt:151:5
 loop-holds : tie.Need-loop-holds Inv-loop μ-loop
 loop-holds c = (refl, refl, refl, refl, (c .before .before .before .before .before .pre .0), reached-none (stateOf ((c .before .before .before .before .before .args .s)) ((c .before .before .before .before .before .args .line) .now) ((c .before .before .before .before .before .args .memory) .now) ((c .before .before .before .before .before .args .out) .now)))
 
--- src/lib.rt:152:9
 sub-turns : tie.Need-sub-turns Inv-loop μ-loop
 sub-turns c = omega arith
 
--- src/lib.rt:153:13
 take-some-requires : tie.Need-take-some-requires Inv-loop μ-loop
 take-some-requires c κs = search needs
 
--- src/lib.rt:156:13
 same-length : tie.Need-same-length Inv-loop μ-loop
 same-length c = omega (arith, (c .before .before .before .before .before .before .before .before .before .before .before .before .before .before .before .before .before .loop .inv .0))
 
--- src/lib.rt:156:13
 same-length-2 : tie.Need-same-length-2 Inv-loop μ-loop
 same-length-2 c = omega (arith, (c .before .before .before .before .before .before .before .before .before .before .before .before .before .before .before .before .before .loop .inv .1))
 
--- src/lib.rt:156:13
 same-length-3 : tie.Need-same-length-3 Inv-loop μ-loop
 same-length-3 c = omega (arith, (c .before .before .before .before .before .before .before .before .before .before .before .before .before .before .before .before .before .loop .inv .2))
 
--- src/lib.rt:156:13
 same-length-4 : tie.Need-same-length-4 Inv-loop μ-loop
 same-length-4 c = omega (arith, (c .before .before .before .before .before .before .before .before .before .before .before .before .before .before .before .before .before .loop .inv .3))
 
--- src/lib.rt:156:13
 returns : tie.Need-returns Inv-loop μ-loop
 returns c = ((c .before .before .before .before .before .before .before .before .before .before .before .take-some .ensures .0), λ e. absurd (true≢false (sym e)))
 
--- src/lib.rt:159:13
 same-length-5 : tie.Need-same-length-5 Inv-loop μ-loop
 same-length-5 c = omega (arith, (c .before .before .before .before .before .before .before .before .before .before .before .before .before .before .before .before .before .before .before .loop .inv .0))
 
--- src/lib.rt:159:13
 same-length-6 : tie.Need-same-length-6 Inv-loop μ-loop
 same-length-6 c = omega (arith, (c .before .before .before .before .before .before .before .before .before .before .before .before .before .before .before .before .before .before .before .loop .inv .1))
 
--- src/lib.rt:159:13
 same-length-7 : tie.Need-same-length-7 Inv-loop μ-loop
 same-length-7 c = omega (arith, (c .before .before .before .before .before .before .before .before .before .before .before .before .before .before .before .before .before .before .before .loop .inv .2))
 
--- src/lib.rt:159:13
 same-length-8 : tie.Need-same-length-8 Inv-loop μ-loop
 same-length-8 c = omega (arith, (c .before .before .before .before .before .before .before .before .before .before .before .before .before .before .before .before .before .before .before .loop .inv .3))
 
--- src/lib.rt:159:13
 returns-2 : tie.Need-returns-2 Inv-loop μ-loop
 returns-2 c = ((c .before .before .before .before .before .before .before .before .before .before .before .before .before .take-some .ensures .0), λ e. reached-both ((c .before .before .before .before .before .before .before .before .before .before .before .before .before .before .before .before .before .before .before .loop .inv .5)) ((c .before .before .before .before .before .before .before .before .before .before .before .before .before .take-some .ensures .1) (not-false ((c .before .before .before .before .before .before .before .before .before .before .before .before .before .take-some .result) .ok) ((c .before .before .if1 .left)))))
 
--- src/lib.rt:151:5
 loop-less : tie.Need-loop-less Inv-loop μ-loop
 loop-less c = omega arith
 
--- src/lib.rt:151:5
 loop-again : tie.Need-loop-again Inv-loop μ-loop
 loop-again c = (omega (arith, (c .before .before .before .before .before .before .before .before .before .before .before .before .before .before .before .before .before .before .before .loop .inv .0)), omega (arith, (c .before .before .before .before .before .before .before .before .before .before .before .before .before .before .before .before .before .before .before .loop .inv .1)), omega (arith, (c .before .before .before .before .before .before .before .before .before .before .before .before .before .before .before .before .before .before .before .loop .inv .2)), omega (arith, (c .before .before .before .before .before .before .before .before .before .before .before .before .before .before .before .before .before .before .before .loop .inv .3)), (c .before .before .before .before .before .before .before .before .before .before .before .before .before .take-some .ensures .0), reached-both ((c .before .before .before .before .before .before .before .before .before .before .before .before .before .before .before .before .before .before .before .loop .inv .5)) ((c .before .before .before .before .before .before .before .before .before .before .before .before .before .take-some .ensures .1) (not-false ((c .before .before .before .before .before .before .before .before .before .before .before .before .before .take-some .result) .ok) ((c .before .before .if1 .left)))))
 
--- src/lib.rt:135:1
 same-length-9 : tie.Need-same-length-9 Inv-loop μ-loop
 same-length-9 c = omega (arith, (c .before .loop .inv .0))
 
--- src/lib.rt:135:1
 same-length-10 : tie.Need-same-length-10 Inv-loop μ-loop
 same-length-10 c = omega (arith, (c .before .loop .inv .1))
 
--- src/lib.rt:135:1
 same-length-11 : tie.Need-same-length-11 Inv-loop μ-loop
 same-length-11 c = omega (arith, (c .before .loop .inv .2))
 
--- src/lib.rt:135:1
 same-length-12 : tie.Need-same-length-12 Inv-loop μ-loop
 same-length-12 c = omega (arith, (c .before .loop .inv .3))
 
--- src/lib.rt:135:1
 returns-3 : tie.Need-returns-3 Inv-loop μ-loop
 returns-3 c = ((c .before .loop .inv .4), λ e. absurd (true≢false (sym e)))
 

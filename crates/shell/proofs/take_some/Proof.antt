@@ -1,92 +1,67 @@
+-- `take_some` meets its contract: nothing was read, or all of what was read is taken.
 use Rattle.shell.proofs.HandedLaws.{reached-none, reached-one}
 use Rattle.reader.specs.Reading.{stateOf}
 use borrow.Author.Needs.{needs}
 use Rattle.shell.proofs.take_some.Statement.{statement}
 use Rattle.shell.proofs.take_some.Tie as tie
-use Rattle.shell.proofs.take_some.Reads as reads
-use Rattle.shell.proofs.take_some.Lts as lts
-use Rattle.io.proofs.count.Reads as count-reads
-use Rattle.libc.proofs.read.Reads as read-reads
-use Rattle.shell.proofs.say_unread.Reads as say-unread-reads
-use Rattle.shell.proofs.take_text.Reads as take-text-reads
 
--- src/lib.rt:115:9
 read-requires : tie.Need-read-requires
 read-requires c κs = search needs
 
--- src/lib.rt:117:9
 say-unread-requires : tie.Need-say-unread-requires
 say-unread-requires c κs = search needs
 
--- src/lib.rt:118:9
 same-length : tie.Need-same-length
 same-length c = search needs
 
--- src/lib.rt:118:9
 returns : tie.Need-returns
 returns c = ((c .before .before .before .before .before .before .before .before .before .before .before .pre .0), λ e. reached-none (stateOf ((c .before .before .before .before .before .before .before .before .before .before .before .args .s)) ((c .before .before .before .before .before .before .before .before .before .before .before .args .line) .now) ((c .before .before .before .before .before .before .before .before .before .before .before .args .memory) .now) ((c .before .before .before .before .before .before .before .before .before .before .before .args .out) .now)))
 
--- src/lib.rt:121:9
 same-length-2 : tie.Need-same-length-2
 same-length-2 c = search needs
 
--- src/lib.rt:121:9
 returns-2 : tie.Need-returns-2
 returns-2 c = ((c .before .before .before .before .before .before .before .before .before .before .before .pre .0), λ e. reached-none (stateOf ((c .before .before .before .before .before .before .before .before .before .before .before .args .s)) ((c .before .before .before .before .before .before .before .before .before .before .before .args .line) .now) ((c .before .before .before .before .before .before .before .before .before .before .before .args .memory) .now) ((c .before .before .before .before .before .before .before .before .before .before .before .args .out) .now)))
 
--- src/lib.rt:123:9
 count-requires : tie.Need-count-requires
 count-requires c κs = search needs
 
--- src/lib.rt:124:23
 slice-reshare-prefix-take-text : tie.Need-slice-reshare-prefix-take-text
 slice-reshare-prefix-take-text c = search needs
 
--- src/lib.rt:124:23
 slice-aggregate-take-text : tie.Need-slice-aggregate-take-text
 slice-aggregate-take-text c = search needs
 
--- src/lib.rt:124:9
 take-text-requires : tie.Need-take-text-requires
 take-text-requires c κs = search needs
 
--- src/lib.rt:101:1
 same-length-3 : tie.Need-same-length-3
 same-length-3 c = search needs
 
--- src/lib.rt:101:1
 same-length-4 : tie.Need-same-length-4
 same-length-4 c = search needs
 
--- src/lib.rt:101:1
 same-length-5 : tie.Need-same-length-5
 same-length-5 c = search needs
 
--- src/lib.rt:101:1
 same-length-6 : tie.Need-same-length-6
 same-length-6 c = search needs
 
--- src/lib.rt:101:1
 returns-3 : tie.Need-returns-3
 returns-3 c = ((c .before .before .before .before .before .before .before .before .take-text .ensures .0), λ e. reached-one ((c .before .before .before .before .before .before .before .before .take-text .ensures .1) e))
 
--- src/lib.rt:101:1
 same-length-7 : tie.Need-same-length-7
 same-length-7 c = search needs
 
--- src/lib.rt:101:1
 same-length-8 : tie.Need-same-length-8
 same-length-8 c = search needs
 
--- src/lib.rt:101:1
 same-length-9 : tie.Need-same-length-9
 same-length-9 c = search needs
 
--- src/lib.rt:101:1
 same-length-10 : tie.Need-same-length-10
 same-length-10 c = search needs
 
--- src/lib.rt:101:1
 returns-4 : tie.Need-returns-4
 returns-4 c = ((c .before .before .before .before .before .before .before .before .take-text .ensures .0), λ e. reached-one ((c .before .before .before .before .before .before .before .before .take-text .ensures .1) e))
 

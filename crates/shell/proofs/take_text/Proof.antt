@@ -1,3 +1,4 @@
+-- `take_text` meets its contract: after each turn the first `from` bytes are taken (`took-both`), and a turn with room takes at least one.
 use Rattle.shell.proofs.HandedLaws.{failed, ready-held, rest, pieces}
 use Rattle.reader.proofs.Whole.{took-none, took-both, took-kept, took-as}
 use Rattle.reader.specs.Reading.{Held, Took, stateOf}
@@ -10,10 +11,6 @@ use borrow.Author.Needs.{needs}
 use native.Mathlib.Omega.{arith}
 use Rattle.shell.proofs.take_text.Statement.{statement}
 use Rattle.shell.proofs.take_text.Tie as tie
-use Rattle.shell.proofs.take_text.Reads as reads
-use Rattle.shell.proofs.take_text.Lts as lts
-use Rattle.reader.proofs.chunk_lines.Reads as chunk-lines-reads
-use Rattle.shell.proofs.make_room.Reads as make-room-reads
 
 abbrev Inv-loop : tie.InvT-loop
 Inv-loop text line₀ memory₀ out₀ r₀ from₀ line memory out r from = (from ≤ length text) × (length line ≡ length line₀) × (length memory ≡ length memory₀) × (length out ≡ length out₀) × Held r line memory out × Took (stateOf r₀ line₀ memory₀ out₀) (take from text) (stateOf r line memory out)
@@ -21,57 +18,44 @@ Inv-loop text line₀ memory₀ out₀ r₀ from₀ line memory out r from = (fr
 abbrev μ-loop : tie.MeasureT-loop
 μ-loop text line₀ memory₀ out₀ r₀ from₀ line memory out r from = length text - from
 
--- src/lib.rt:81:5
 loop-holds : tie.Need-loop-holds Inv-loop μ-loop
 loop-holds c = (omega arith, refl, refl, refl, (c .before .before .before .before .pre .0), took-none (stateOf ((c .before .before .before .before .args .s)) ((c .before .before .before .before .args .line) .now) ((c .before .before .before .before .args .memory) .now) ((c .before .before .before .before .args .out) .now)))
 
--- src/lib.rt:82:13
 make-room-requires : tie.Need-make-room-requires Inv-loop μ-loop
 make-room-requires c κs = search needs
 
--- src/lib.rt:84:13
 same-length : tie.Need-same-length Inv-loop μ-loop
 same-length c = omega arith
 
--- src/lib.rt:84:13
 same-length-2 : tie.Need-same-length-2 Inv-loop μ-loop
 same-length-2 c = omega arith
 
--- src/lib.rt:84:13
 same-length-3 : tie.Need-same-length-3 Inv-loop μ-loop
 same-length-3 c = omega arith
 
--- src/lib.rt:84:13
 returns : tie.Need-returns Inv-loop μ-loop
 returns c = (search needs, failed ((c .before .before .make-room .result) .ok) ((c .if1 .taken)))
 
--- src/lib.rt:86:37
 sub-chunk-lines : tie.Need-sub-chunk-lines Inv-loop μ-loop
 sub-chunk-lines c = omega arith
 
--- src/lib.rt:86:37
 part-chunk-lines-start : tie.Need-part-chunk-lines-start Inv-loop μ-loop
 part-chunk-lines-start c = omega arith
 
--- src/lib.rt:86:37
 part-chunk-lines-end : tie.Need-part-chunk-lines-end Inv-loop μ-loop
 part-chunk-lines-end c = omega arith
 
--- src/lib.rt:86:13
 chunk-lines-requires : tie.Need-chunk-lines-requires Inv-loop μ-loop
 chunk-lines-requires c κs = ready-held ((c .before .before .before .before .before .before .make-room .ensures .0))
 
--- src/lib.rt:87:9
 add-from : tie.Need-add-from Inv-loop μ-loop
 add-from c = omega (arith, rest ((c .before .before .before .before .before .before .before .before .before .before .before .before .before .before .before .before .before .before .before .before .before .before .before .before .args .text) .now) ((c .before .before .before .before .before .before .before .before .before .before .before .before .before .before .before .before .before .before .before .loop .from)), (c .before .before .before .before .before .before .before .chunk-lines .ensures .1) .1 .0, (c .before .before .before .before .before .before .before .before .before .before .before .before .before .before .before .before .before .before .before .before .before .before .before .before .good .0) .0)
 
--- src/lib.rt:81:5
 loop-less : tie.Need-loop-less Inv-loop μ-loop
 loop-less c = let r = rest ((c .before .before .before .before .before .before .before .before .before .before .before .before .before .before .before .before .before .before .before .before .before .before .before .before .before .args .text) .now) ((c .before .before .before .before .before .before .before .before .before .before .before .before .before .before .before .before .before .before .before .before .loop .from)) in
     let moved = (c .before .before .before .before .before .before .before .before .chunk-lines .ensures .1) .1 .1 (omega arith) (omega (arith, r)) in
     omega (arith, r, moved, (c .before .before .before .before .before .before .before .before .chunk-lines .ensures .1) .1 .0)
 
--- src/lib.rt:81:5
 loop-again : tie.Need-loop-again Inv-loop μ-loop
 loop-again c = let r = rest ((c .before .before .before .before .before .before .before .before .before .before .before .before .before .before .before .before .before .before .before .before .before .before .before .before .before .args .text) .now) ((c .before .before .before .before .before .before .before .before .before .before .before .before .before .before .before .before .before .before .before .before .loop .from)) in
     let within = (c .before .before .before .before .before .before .before .before .chunk-lines .ensures .1) .1 .0 in (
@@ -84,19 +68,15 @@ loop-again c = let r = rest ((c .before .before .before .before .before .before 
           (took-both (took-both ((c .before .before .before .before .before .before .before .before .before .before .before .before .before .before .before .before .before .before .before .before .loop .inv .5)) ((c .before .before .before .before .before .before .before .before .before .before .before .before .before .before .before .make-room .ensures .1) (not-false ((c .before .before .before .before .before .before .before .before .before .before .before .before .before .before .before .make-room .result) .ok) ((c .before .before .before .before .before .before .before .before .before .before .before .before .before .if1 .left))))) (took-kept ((c .before .before .before .before .before .before .before .before .chunk-lines .ensures .0)))),
     )
 
--- src/lib.rt:73:1
 same-length-4 : tie.Need-same-length-4 Inv-loop μ-loop
 same-length-4 c = omega arith
 
--- src/lib.rt:73:1
 same-length-5 : tie.Need-same-length-5 Inv-loop μ-loop
 same-length-5 c = omega arith
 
--- src/lib.rt:73:1
 same-length-6 : tie.Need-same-length-6 Inv-loop μ-loop
 same-length-6 c = omega arith
 
--- src/lib.rt:73:1
 returns-2 : tie.Need-returns-2 Inv-loop μ-loop
 returns-2 c = let all : (c .before .loop .from) ≡ length ((c .before .before .before .before .before .before .args .text) .now) = omega arith in
     ((c .before .loop .inv .4), λ e. took-as (ap (λ (n : ℕ). take n ((c .before .before .before .before .before .before .args .text) .now)) all ∙ take-length ((c .before .before .before .before .before .before .args .text) .now)) ((c .before .loop .inv .5)))

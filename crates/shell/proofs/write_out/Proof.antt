@@ -1,35 +1,26 @@
+-- `write_out` meets its contract: the bytes that it lends on lie within the buffer.
 use lib.Seq.{length-take-le}
 use mathlib.Core.Path.{sym}
 use native.Mathlib.Omega.{arith}
 use borrow.Author.Needs.{needs}
 use Rattle.shell.proofs.write_out.Statement.{statement}
 use Rattle.shell.proofs.write_out.Tie as tie
-use Rattle.shell.proofs.write_out.Reads as reads
-use Rattle.shell.proofs.write_out.Lts as lts
-use Rattle.io.proofs.write_all.Reads as write-all-reads
-use Rattle.os.proofs.fail.Reads as fail-reads
 
--- src/lib.rt:41:43
 slice-aggregate-write-all : tie.Need-slice-aggregate-write-all
 slice-aggregate-write-all c = sym (length-take-le ((c .before .before .args .at)) ((c .before .before .args .out) .now) (omega arith))
 
--- src/lib.rt:41:9
 write-all-requires : tie.Need-write-all-requires
 write-all-requires c κs = search needs
 
--- src/lib.rt:43:18
 slice-aggregate-fail : tie.Need-slice-aggregate-fail
 slice-aggregate-fail c = search needs
 
--- src/lib.rt:43:9
 fail-requires : tie.Need-fail-requires
 fail-requires c κs = search needs
 
--- src/lib.rt:38:1
 returns : tie.Need-returns
 returns c = search needs
 
--- src/lib.rt:38:1
 returns-2 : tie.Need-returns-2
 returns-2 c = search needs
 

@@ -1,57 +1,42 @@
+-- `touches_at` meets its contract: the reading is a step (`see-step`) or none (`see-no-step`).
 use Rattle.verdict.proofs.CountedLaws.{see-no-step, see-step}
 use borrow.Author.Needs.{needs}
 use Rattle.verdict.proofs.touches_at.Statement.{statement}
 use Rattle.verdict.proofs.touches_at.Tie as tie
-use Rattle.verdict.proofs.touches_at.Reads as reads
-use Rattle.verdict.proofs.touches_at.Lts as lts
-use Rattle.lists.proofs.read_step.Reads as read-step-reads
-use Rattle.verdict.proofs.touches.Reads as touches-reads
 
--- src/lib.rt:136:14
 mul-at : tie.Need-mul-at
 mul-at c = search needs
 
--- src/lib.rt:137:14
 add-to : tie.Need-add-to
 add-to c = search needs
 
--- src/lib.rt:138:36
 mul-read-step : tie.Need-mul-read-step
 mul-read-step c = search needs
 
--- src/lib.rt:138:36
 sub-read-step : tie.Need-sub-read-step
 sub-read-step c = search needs
 
--- src/lib.rt:138:36
 part-read-step-start : tie.Need-part-read-step-start
 part-read-step-start c = search needs
 
--- src/lib.rt:138:36
 part-read-step-end : tie.Need-part-read-step-end
 part-read-step-end c = search needs
 
--- src/lib.rt:138:9
 read-step-requires : tie.Need-read-step-requires
 read-step-requires c κs = search needs
 
--- src/lib.rt:140:23
 enum-known-reading : tie.Need-enum-known-reading
 enum-known-reading c = search needs
 
--- src/lib.rt:140:29
 touches-requires : tie.Need-touches-requires
 touches-requires c κs = search needs
 
--- src/lib.rt:141:28
 enum-told : tie.Need-enum-told
 enum-told c = search needs
 
--- src/lib.rt:132:1
 returns : tie.Need-returns
 returns c = see-step ((c .before .before .before .before .before .before .before .before .args .words) .now) ((c .before .before .before .before .before .before .before .before .args .i)) ((c .before .before .before .before .before .before .before .before .args .k)) _ _ _ ((c .before .before .before .before .read-step .ensures)) ((c .before .before .reading .given .1)) ((c .touches .ensures))
 
--- src/lib.rt:132:1
 returns-2 : tie.Need-returns-2
 returns-2 c = see-no-step ((c .before .before .before .before .before .before .args .words) .now) ((c .before .before .before .before .before .before .args .i)) ((c .before .before .before .before .before .before .args .k)) _ _ ((c .before .before .before .before .before .before .pre .2)) ((c .before .before .read-step .ensures)) ((c .enum-told .given .1))
 

@@ -1,3 +1,4 @@
+-- `take_parts` meets its contract: each turn takes some bytes more (`listed-both`), and the turns run down.
 use Rattle.shell.proofs.ListedLaws.{listed-none, listed-both}
 use Rattle.shell.specs.Handed.{Listed}
 use Rattle.listfile.specs.Listing.{Held, stateOf}
@@ -7,9 +8,6 @@ use borrow.Author.Needs.{needs}
 use native.Mathlib.Omega.{arith}
 use Rattle.shell.proofs.steps.take_parts.Statement.{statement}
 use Rattle.shell.proofs.steps.take_parts.Tie as tie
-use Rattle.shell.proofs.steps.take_parts.Reads as reads
-use Rattle.shell.proofs.steps.take_parts.Lts as lts
-use Rattle.shell.proofs.steps.take_part.Reads as take-part-reads
 
 abbrev Inv-loop : tie.InvT-loop
 Inv-loop fd path text₀ line₀ words₀ r₀ turns₀ text line words r turns = (length text ≡ length text₀) × (length line ≡ length line₀) × (length words ≡ length words₀) × Held r line words × Listed (stateOf r₀ line₀ words₀) (stateOf r line words)
@@ -17,55 +15,42 @@ Inv-loop fd path text₀ line₀ words₀ r₀ turns₀ text line words r turns 
 abbrev μ-loop : tie.MeasureT-loop
 μ-loop fd path text₀ line₀ words₀ r₀ turns₀ text line words r turns = turns
 
--- src/steps.rt:61:5
 loop-holds : tie.Need-loop-holds Inv-loop μ-loop
 loop-holds c = (refl, refl, refl, (c .before .before .before .before .pre), listed-none (stateOf ((c .before .before .before .before .args .s)) ((c .before .before .before .before .args .line) .now) ((c .before .before .before .before .args .words) .now)))
 
--- src/steps.rt:62:9
 sub-turns : tie.Need-sub-turns Inv-loop μ-loop
 sub-turns c = omega arith
 
--- src/steps.rt:63:13
 take-part-requires : tie.Need-take-part-requires Inv-loop μ-loop
 take-part-requires c κs = search needs
 
--- src/steps.rt:66:13
 same-length : tie.Need-same-length Inv-loop μ-loop
 same-length c = omega (arith, (c .before .before .before .before .before .before .before .before .before .before .before .before .before .before .loop .inv .0))
 
--- src/steps.rt:66:13
 same-length-2 : tie.Need-same-length-2 Inv-loop μ-loop
 same-length-2 c = omega (arith, (c .before .before .before .before .before .before .before .before .before .before .before .before .before .before .loop .inv .1))
 
--- src/steps.rt:66:13
 same-length-3 : tie.Need-same-length-3 Inv-loop μ-loop
 same-length-3 c = omega (arith, (c .before .before .before .before .before .before .before .before .before .before .before .before .before .before .loop .inv .2))
 
--- src/steps.rt:66:13
 returns : tie.Need-returns Inv-loop μ-loop
 returns c = ((c .before .before .before .before .before .before .before .before .before .take-part .ensures .0), listed-both ((c .before .before .before .before .before .before .before .before .before .before .before .before .before .before .loop .inv .4)) ((c .before .before .before .before .before .before .before .before .before .take-part .ensures .1)))
 
--- src/steps.rt:61:5
 loop-less : tie.Need-loop-less Inv-loop μ-loop
 loop-less c = omega arith
 
--- src/steps.rt:61:5
 loop-again : tie.Need-loop-again Inv-loop μ-loop
 loop-again c = (omega (arith, (c .before .before .before .before .before .before .before .before .before .before .before .before .before .before .loop .inv .0)), omega (arith, (c .before .before .before .before .before .before .before .before .before .before .before .before .before .before .loop .inv .1)), omega (arith, (c .before .before .before .before .before .before .before .before .before .before .before .before .before .before .loop .inv .2)), (c .before .before .before .before .before .before .before .before .before .take-part .ensures .0), listed-both ((c .before .before .before .before .before .before .before .before .before .before .before .before .before .before .loop .inv .4)) ((c .before .before .before .before .before .before .before .before .before .take-part .ensures .1)))
 
--- src/steps.rt:47:1
 same-length-4 : tie.Need-same-length-4 Inv-loop μ-loop
 same-length-4 c = omega (arith, (c .before .loop .inv .0))
 
--- src/steps.rt:47:1
 same-length-5 : tie.Need-same-length-5 Inv-loop μ-loop
 same-length-5 c = omega (arith, (c .before .loop .inv .1))
 
--- src/steps.rt:47:1
 same-length-6 : tie.Need-same-length-6 Inv-loop μ-loop
 same-length-6 c = omega (arith, (c .before .loop .inv .2))
 
--- src/steps.rt:47:1
 returns-2 : tie.Need-returns-2 Inv-loop μ-loop
 returns-2 c = ((c .before .loop .inv .3), (c .before .loop .inv .4))
 
