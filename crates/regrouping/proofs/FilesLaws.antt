@@ -1,12 +1,11 @@
 -- From the words of two files to the report of the two files, and what a step of such words is.
 -- Assumes nothing.
-use Prim.Native.Nat.{ℕ, _+_, _*_, _/_, _≤_, _<_}
-use mathlib.Core.Path.{_≡_, refl, sym, ap, subst, _∙_}
-use mathlib.Core.List.{List, [], _++_, append-assoc}
+use Prim.Native.Nat.{ℕ, _+_, _*_, _≤_, _<_}
+use mathlib.Core.Path.{_≡_, sym, ap, subst, _∙_}
+use mathlib.Core.List.{List, []}
 use native.Mathlib.Omega.{arith}
 use lib.ListN.{length, getD, take, drop, length-append}
 use lib.Seq.{length-take-le, take-append-le, take-length}
-use Rattle.step.specs.declared.Reading.{Reading}
 use Rattle.runfile.specs.Read.{readLine}
 use Rattle.sheet.specs.Sheet.{linesOf}
 use Rattle.text.specs.Paste.{pasted, Put}

@@ -1,24 +1,23 @@
 -- How long the lines of a report are, and how they follow each other.
 -- Assumes nothing.
 use Prim.Native.Nat.{ℕ, zero, suc, _+_, _-_, _*_, _≤_, _<_}
-use mathlib.Core.Path.{_≡_, refl, sym, ap, subst, _∙_}
+use mathlib.Core.Path.{_≡_, refl, sym, subst}
 use mathlib.Core.Bool.{Bool, true, false, cond}
-use mathlib.Core.List.{List, [], _++_, append-nil}
+use mathlib.Core.List.{List, [], _++_}
 use native.Mathlib.Omega.{arith}
 use borrow.Author.Tests.{lt-ltb, le-ltb, le-leb, lt-leb}
-use lib.Dec.{ltb, leb}
+use lib.Dec.{leb}
 use lib.ListN.{length, length-append}
-use Rattle.text.specs.Text.{bytes, decimal, field}
+use Rattle.text.specs.Text.{bytes, field}
 use Rattle.text.specs.Paste.{Put}
 use Rattle.text.proofs.Decimal.{length-ten}
 use Rattle.text.proofs.Paste.{put-then, paste-nothing}
 use Rattle.sheet.proofs.Room.{field-short}
-use Rattle.verdict.specs.Watches.{Watch}
 use Rattle.verdict.specs.Counted.{count}
-use Rattle.verdict.specs.Compared.{Watched, Parts, Stands, Compared}
+use Rattle.verdict.specs.Compared.{Watched, Compared}
 use Rattle.verdict.specs.declared.Comparison.{Comparison}
 use Rattle.verdict.specs.declared.Comparison.the-variants.{Same, Parted}
-use Rattle.report.specs.Report.{lineOf, watchText, partText, TextOf, WatchLine, WatchLines, verdictText, Report, PutPart, PutLine, PutLines, PutReport}
+use Rattle.report.specs.Report.{lineOf, watchText, partText, WatchLines, PutPart, PutLine, PutLines, PutReport}
 
 -- ---- lines of the files
 pub line-in : (place many : ℕ) → place < many → place + 1 ≡ lineOf place many

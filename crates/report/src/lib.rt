@@ -5,7 +5,6 @@ ghost use Prim.Native.Nat.{_+_, _-_, _≤_, _<_};
 ghost use lib.ListN.{length};
 ghost use Rattle.text.specs.Paste.{Put};
 ghost use Rattle.verdict.specs.Counted.{count};
-ghost use Rattle.verdict.specs.Compared.{Stands};
 ghost use Rattle.report.specs.Report.{lineOf, watchText, partText, WatchLines, PutPart, PutLine, PutLines, PutReport};
 use lists::STEP_WORDS;
 use text::put_bytes;

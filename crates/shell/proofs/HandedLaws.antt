@@ -11,7 +11,6 @@ use lib.ListN.{length, take, drop, length-take, length-drop}
 use lib.Seq.{take-take, take-add}
 use Rattle.dataway.specs.Crate.{FitCrate, emptyCrate}
 use Rattle.dataway.proofs.CrateLaws.{empty-fit}
-use Rattle.sheet.specs.Sheet.{sheetOf}
 use Rattle.reader.specs.declared.Reader.{Reader}
 use Rattle.reader.specs.Reading.{State, feed, closed, start, second, under, stateOf, Took, Held, Ready}
 use Rattle.reader.proofs.ReadingLaws.{states, feed-append}

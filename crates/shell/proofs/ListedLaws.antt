@@ -1,10 +1,10 @@
 -- Parts of a run file, one after the other, are stored as its words.
 -- Assumes nothing.
-use Prim.Native.Nat.{ℕ, _*_, _≤_}
+use Prim.Native.Nat.{ℕ}
 use mathlib.Core.Path.{_≡_, refl, sym, ap, _∙_}
 use mathlib.Core.List.{List, [], _++_}
 use native.Mathlib.Omega.{arith}
-use lib.ListN.{length, take}
+use lib.ListN.{length}
 use Rattle.sheet.specs.Sheet.{linesOf}
 use Rattle.listfile.specs.ListWords.{listWords, fileWords}
 use Rattle.listfile.specs.Listing.{ListState, feed, closed, start, stateOf, Held}
