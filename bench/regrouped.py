@@ -204,7 +204,7 @@ def garbled(rng, line):
             line.replace(" ", "  ") if " " in line else line + line,
             line.replace("=", "=0", 2),
             line[:-1],
-            line.upper(),
+            line.replace("op", "OP"),
             line + "000000000",
             line + " w=0",
             line + " " * 90,
