@@ -1,7 +1,7 @@
 #!/usr/bin/env python3
 """Writes crate and run files for comparing two builds of the rehearsal.
 
-make_files.py large DIR               the large folders: mixed, transfers, garbled, past
+make_files.py large DIR               the large folders: mixed, scans, garbled, past
 make_files.py random DIR FIRST COUNT  COUNT small folders DIR/SEED, of the seeds FIRST and up
 """
 import os
@@ -150,18 +150,21 @@ def mixed(path):
     write_folder(path, crate_text(modules), b"\n".join(lines) + b"\n")
 
 
-def transfers(path):
-    """20,000 scans of many stations and repeats of many cycles."""
-    rng = random.Random("transfers")
+def scans(path):
+    """Registers filled by front events, then 20,000 long scans, Repeats and Stops, one Repeat in three on an empty buffer memory."""
+    rng = random.Random("scans")
     modules = [(n, 1, 16) for n in range(1, 21)] + [(21, 4, 1), (22, 2, 16), (23, 5, 16)]
-    lines = []
+    lines = ["op=front n=%d a=%d v=%d" % (n, a, word(rng)) for n in range(1, 21) for a in range(16)]
     for place in range(20000):
+        n, a, f = rng.randint(1, 20), rng.randint(0, 15), rng.choice([0, 0, 3])
         if place % 2 == 0:
-            lines.append("op=scan n=%d a=0 f=%d to=23 limit=512" % (rng.randint(1, 3), rng.choice([0, 0, 3])))
-        elif place % 4 == 1:
+            lines.append("op=scan n=%d a=0 f=%d to=23 limit=512" % (rng.randint(1, 3), f))
+        elif place % 8 == 1:
+            lines.append("op=stop n=%d a=%d f=%d limit=512" % (n, a, f))
+        elif rng.random() < 1 / 3:
             lines.append("op=repeat n=21 a=0 f=2 limit=512 tries=4096")
         else:
-            lines.append("op=repeat n=%d a=%d f=0 limit=512 tries=4096" % (rng.randint(1, 20), rng.randint(0, 15)))
+            lines.append("op=repeat n=%d a=%d f=%d limit=512 tries=4096" % (n, a, f))
     write_folder(path, crate_text(modules), "".join(line + "\n" for line in lines).encode())
 
 
@@ -219,7 +222,7 @@ def random_folder(path, seed):
 
 def main():
     if len(sys.argv) == 3 and sys.argv[1] == "large":
-        for make in (mixed, transfers, garbled, past):
+        for make in (mixed, scans, garbled, past):
             make(os.path.join(sys.argv[2], make.__name__))
     elif len(sys.argv) == 5 and sys.argv[1] == "random":
         for seed in range(int(sys.argv[3]), int(sys.argv[3]) + int(sys.argv[4])):

@@ -1,18 +1,13 @@
-// The CAMAC rehearsal in plain Rust, written from document 01 and the readings of it alone.
-// It shares no code with the proved program, so that the two can be compared.
-// Build: rustc -O reference.rs. It reads crate.txt and run.txt in the current
-// folder and prints the sheet. library.rs uses its crate, steps and lines too.
+// The crate, its steps and its lines in plain Rust, written from document 01 read as docs/RULES.md has it.
+// It shares no code with the proved library, so that library.rs can compare the two call by call.
 
 use std::collections::VecDeque;
-use std::io::{self, Write};
 
 const STATIONS: u32 = 23;
-const LAST_LINE: usize = 99_999;
 const LONGEST_LINE: usize = 80;
 const MODULUS: u32 = 1 << 24;
 const WORD_MAX: u32 = MODULUS - 1;
 const BUFFER_PLACES: usize = 16;
-const MOST_WORDS: usize = 512; // the highest limit of a transfer
 
 pub const GARBLED: u32 = 1;
 const NO_SUCH_STATION: u32 = 2;
@@ -505,16 +500,6 @@ pub fn run_step(memory: &mut Crate, step: Step, lent: usize, words: &mut Vec<u32
 
 // ---- lines ----
 
-// The lines of a file that are read. A file that ends in LF has no further line.
-fn lines(file: &[u8]) -> impl Iterator<Item = &[u8]> {
-    let last = match file.strip_suffix(b"\n") {
-        Some(rest) => Some(rest),
-        None if file.is_empty() => None,
-        None => Some(file),
-    };
-    last.into_iter().flat_map(|text| text.split(|byte| *byte == b'\n')).take(LAST_LINE)
-}
-
 // The numbers of a line that is `head` followed by exactly these fields.
 fn fields<const COUNT: usize>(line: &[u8], head: &str, names: [&str; COUNT]) -> Option<[u32; COUNT]> {
     if line.len() > LONGEST_LINE {
@@ -587,64 +572,4 @@ pub fn run_line(line: &[u8]) -> Option<Step> {
         return Some(Step::Stop(fields));
     }
     None
-}
-
-// The rest of an answer's sheet line after `step=K `.
-fn text(answer: &Answer, words: usize) -> String {
-    match answer {
-        Answer::Replied(reply) => format!("x={} q={} r={}", reply.x, reply.q, reply.r),
-        Answer::Taken(taken) => format!("taken={}", *taken as u32),
-        Answer::Done => "done=1".to_string(),
-        Answer::Looked(l, count, first) => format!("l={} count={} first={}", l, count, first),
-        Answer::Transferred(transfer) => format!("end={} words={} cycles={}", transfer.end, words, transfer.cycles),
-    }
-}
-
-// ---- the program ----
-
-// A missing file is empty; so is one that cannot be read, which is told on standard error.
-fn read_file(name: &str) -> Vec<u8> {
-    match std::fs::read(name) {
-        Ok(bytes) => bytes,
-        Err(error) => {
-            if error.kind() != io::ErrorKind::NotFound {
-                eprintln!("{}: {}", name, error);
-            }
-            Vec::new()
-        }
-    }
-}
-
-fn main() -> io::Result<()> {
-    let mut sheet = io::BufWriter::with_capacity(1 << 16, io::stdout().lock());
-    let mut memory = Crate::new();
-    let mut previous = 0;
-    for (place, line) in lines(&read_file("crate.txt")).enumerate() {
-        match crate_line(line, previous) {
-            Ok((n, module)) => {
-                memory.stations[n as usize] = module;
-                previous = n;
-            }
-            Err(number) => {
-                writeln!(sheet, "crate={} refused={}", place + 1, number)?;
-                return sheet.flush();
-            }
-        }
-    }
-    let mut words = Vec::with_capacity(MOST_WORDS);
-    for (place, line) in lines(&read_file("run.txt")).enumerate() {
-        words.clear();
-        let answer = match run_line(line) {
-            Some(step) => run_step(&mut memory, step, MOST_WORDS, &mut words),
-            None => Err(GARBLED),
-        };
-        match answer {
-            Ok(answer) => writeln!(sheet, "step={} {}", place + 1, text(&answer, words.len()))?,
-            Err(number) => writeln!(sheet, "step={} refused={}", place + 1, number)?,
-        }
-        for word in &words {
-            writeln!(sheet, "word={}", word)?;
-        }
-    }
-    sheet.flush()
 }

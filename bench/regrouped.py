@@ -8,7 +8,7 @@ SEED     of the first of them (1)
 Ends with 0 when every output is the same, 1 when one differs, 2 when it cannot start.
 
 Written from document 01 alone. A line of a file is a step. The verdict comes from trying the rearrangements one by one; the lines before it from
-the steps that touch each station, in order, and from how often each refusal number comes.
+the steps that touch each station, in order, and from how often each refusal number comes. Neighbouring stations that part alike are one line.
 """
 import os
 import random
@@ -127,9 +127,9 @@ def rearranged(first, second):
     return len(first) == len(second) and search([])
 
 
-def partings(first, second):
-    """The lines that the program prints before its verdict."""
-    lines = []
+def station_partings(first, second):
+    """The three line numbers of each station at which the lists part."""
+    numbers = {}
     for station in range(1, LAST_STATION + 1):
         due = [place for place, step in enumerate(first) if station in step.touches]
         there = [place for place, step in enumerate(second) if station in step.touches]
@@ -142,10 +142,24 @@ def partings(first, second):
         if k < len(due) and k < len(there):
             later = [place for place in there[k:] if second[place].same == first[due[k]].same]
             stands = later[0] + 1 if later else 0
-        lines.append(
-            "n=%d first=%d second=%d stands=%d"
-            % (station, due[k] + 1 if k < len(due) else 0, there[k] + 1 if k < len(there) else 0, stands)
-        )
+        numbers[station] = (due[k] + 1 if k < len(due) else 0, there[k] + 1 if k < len(there) else 0, stands)
+    return numbers
+
+
+def station_lines(numbers):
+    """A line for each row of stations, low to high, that all part alike and that no neighbour would lengthen."""
+    lines = []
+    for low in numbers:
+        for high in range(low, LAST_STATION + 1):
+            alike = all(numbers.get(station) == numbers[low] for station in range(low, high + 1))
+            if alike and numbers.get(low - 1) != numbers[low] and numbers.get(high + 1) != numbers[low]:
+                to = " to=%d" % high if high > low else ""
+                lines.append("n=%d%s first=%d second=%d stands=%d" % ((low, to) + numbers[low]))
+    return lines
+
+
+def refusal_lines(first, second):
+    lines = []
     for number in range(1, 12):
         due = [place for place, step in enumerate(first) if step.refused == number]
         there = [place for place, step in enumerate(second) if step.refused == number]
@@ -157,7 +171,8 @@ def partings(first, second):
 
 
 def report(first, second):
-    lines = partings(first, second) + ["regrouped=%d" % rearranged(first, second)]
+    lines = station_lines(station_partings(first, second)) + refusal_lines(first, second)
+    lines.append("regrouped=%d" % rearranged(first, second))
     return "".join(line + "\n" for line in lines).encode()
 
 
@@ -346,7 +361,7 @@ def large_pairs(rng):
         for _ in range(LAST_LINE)
     ]
     other = "op=scan n=1 a=0 f=0 to=%d limit=1" % LAST_STATION
-    moved = "".join("n=%d first=1 second=1 stands=%d\n" % (n, LAST_LINE) for n in range(1, LAST_STATION + 1))
+    moved = "n=1 to=%d first=1 second=1 stands=%d\n" % (LAST_STATION, LAST_LINE)
     return [
         ("regrouped by station", mixed, regrouped_by_station(mixed), "regrouped=1\n"),
         ("scans of all stations", scans, scans, "regrouped=1\n"),

@@ -8,7 +8,7 @@ use native.Mathlib.Omega.{arith}
 use borrow.Author.Tests.{le-leb, lt-leb}
 use lib.Dec.{leb}
 use lib.ListN.{length, take, drop}
-use Rattle.station.proofs.TestLaws.{both-false}
+use Rattle.kinds.proofs.TestLaws.{both-false}
 use Rattle.dataway.specs.Crate.{isFitCrate}
 use Rattle.step.specs.Refusals.{refusalNumber}
 use Rattle.step.specs.declared.Refusal.{Refusal}

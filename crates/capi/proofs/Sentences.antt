@@ -10,7 +10,7 @@ use Rattle.dataway.specs.Crate.{isFitCrate}
 use Rattle.step.specs.Modules.{moduleVerdict}
 use Rattle.step.specs.declared.Refusal.{Refusal}
 use Rattle.step.specs.declared.Refusal.the-variants.{ShortBuffer, UnfitCrate}
-use Rattle.step.specs.declared.Module.{Module}
+use Rattle.kinds.specs.declared.Module.{Module}
 use Rattle.step.specs.declared.ModuleLine.{ModuleLine}
 use Rattle.step.specs.declared.ModuleLine.the-variants.{Holds, Bad}
 use Rattle.step.specs.declared.Verdict.{Verdict}

@@ -4,3 +4,4 @@ pub mod Arms
 pub mod Samples
 pub mod Bench
 pub mod PlacingLaws
+pub mod FinishedLaws

@@ -11,8 +11,8 @@ use lib.Dec.{eqb}
 use Rattle.regroup.specs.Lists.{Common, Rearranged, Alike}
 use Rattle.regroup.proofs.Whole.{as-long, step-at}
 use Rattle.dataway.specs.Crate.{FitCrate}
-use Rattle.step.specs.Verdict.{frontVerdict, scanVerdict}
-use Rattle.step.specs.declared.Step.the-variants.{Front, Z, Scan}
+use Rattle.step.specs.Verdict.{commandVerdict, frontVerdict, scanVerdict, repeatVerdict, stopVerdict}
+use Rattle.step.specs.declared.Step.the-variants.{Command, Front, Z, Scan, Repeat, Stop}
 use Rattle.step.specs.declared.Reading.the-variants.{Good}
 use Rattle.controller.specs.Steps.{Order, order, leaves, gives, touches}
 use Rattle.controller.specs.Regrouping.{beyond}
@@ -110,3 +110,65 @@ no-sample p r =
     let t : Good Z ≡ Good (Front 3 0 1) = ap (λ (o : Order). o .reading) s in
     let z : _≡_ {A = ℕ} 0 1 = cc in
     omega arith
+
+-- ---- a command moves past a Repeat past a Stop: each touches its own station only
+abbrev pub command3 : Order
+command3 = order (Good (Command 3 0 0 0)) []
+
+abbrev pub repeat5 : Order
+repeat5 = order (Good (Repeat 5 0 0 1 1)) (0 ∷ [])
+
+abbrev pub stop7 : Order
+stop7 = order (Good (Stop 7 0 0 1)) (0 ∷ [])
+
+touches-command : (k : ℕ) → touches command3 k ≡ eqb 3 k
+unfolding commandVerdict
+touches-command k = refl
+
+touches-repeat : (k : ℕ) → touches repeat5 k ≡ eqb 5 k
+unfolding repeatVerdict
+touches-repeat k = refl
+
+touches-stop : (k : ℕ) → touches stop7 k ≡ eqb 7 k
+unfolding stopVerdict
+touches-stop k = refl
+
+abbrev pub turned : List ℕ
+turned = 2 ∷ 1 ∷ 0 ∷ []
+
+pub turned-sample : Rearranged touches beyond (command3 ∷ repeat5 ∷ stop7 ∷ []) (stop7 ∷ repeat5 ∷ command3 ∷ []) turned
+turned-sample = record { second = refl; places = below; each = every; once = once; order = kept }
+  where
+    below : (k : ℕ) → k < 3 → getD turned k 0 < 3
+    below zero h = omega arith
+    below (suc zero) h = omega arith
+    below (suc (suc zero)) h = omega arith
+    below (suc (suc (suc k))) h = absurd (omega arith)
+
+    there : (k : ℕ) → k < 3 → getD turned (getD turned k 0) 0 ≡ k
+    there zero h = refl
+    there (suc zero) h = refl
+    there (suc (suc zero)) h = refl
+    there (suc (suc (suc k))) h = absurd (omega arith)
+
+    every : (i : ℕ) → i < 3 → (k : ℕ) × (k < 3) × (getD turned k 0 ≡ i)
+    every i h = (getD turned i 0, below i h, there i h)
+
+    once : (j k : ℕ) → j < 3 → k < 3 → getD turned j 0 ≡ getD turned k 0 → j ≡ k
+    once j k a b e = sym (there j a) ∙ ap (λ (i : ℕ). getD turned i 0) e ∙ there k b
+
+    kept : (j k : ℕ) → j < k → k < 3
+        → Common touches (getD (stop7 ∷ repeat5 ∷ command3 ∷ []) j beyond) (getD (stop7 ∷ repeat5 ∷ command3 ∷ []) k beyond) → getD turned j 0 < getD turned k 0
+    kept zero (suc zero) a b c =
+        absurd (omega (arith, eqb-true 7 (c .0) (sym (touches-stop (c .0)) ∙ c .3), eqb-true 5 (c .0) (sym (touches-repeat (c .0)) ∙ c .4)))
+    kept zero (suc (suc zero)) a b c =
+        absurd (omega (arith, eqb-true 7 (c .0) (sym (touches-stop (c .0)) ∙ c .3), eqb-true 3 (c .0) (sym (touches-command (c .0)) ∙ c .4)))
+    kept (suc zero) (suc (suc zero)) a b c =
+        absurd (omega (arith, eqb-true 5 (c .0) (sym (touches-repeat (c .0)) ∙ c .3), eqb-true 3 (c .0) (sym (touches-command (c .0)) ∙ c .4)))
+    kept j zero a b c = absurd (omega arith)
+    kept (suc j) (suc zero) a b c = absurd (omega arith)
+    kept (suc (suc j)) (suc (suc zero)) a b c = absurd (omega arith)
+    kept j (suc (suc (suc k))) a b c = absurd (omega arith)
+
+pub turned-alike : (m : List ℕ) → FitCrate m → Alike leaves gives m (command3 ∷ repeat5 ∷ stop7 ∷ []) (stop7 ∷ repeat5 ∷ command3 ∷ []) turned
+turned-alike m f = crate-regroup m f (command3 ∷ repeat5 ∷ stop7 ∷ []) (stop7 ∷ repeat5 ∷ command3 ∷ []) turned turned-sample

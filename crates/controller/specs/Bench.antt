@@ -4,6 +4,7 @@ use mathlib.Core.Path.{_≡_}
 use mathlib.Core.List.{List, [], _∷_, _++_}
 use lib.ListN.{replicate}
 use Rattle.blocks.specs.Blocks.{withBlock}
+use Rattle.kinds.specs.declared.Module.{Module}
 use Rattle.station.specs.Outcome.{answer}
 use Rattle.station.specs.Command.{commandOf}
 use Rattle.station.specs.Front.{frontOf}
@@ -24,6 +25,13 @@ full status = 4 ∷ 1 ∷ status ∷ 0 ∷ 0 ∷ 16 ∷ replicate 10 0 ++ replic
 
 abbrev pub two : List ℕ
 two = 4 ∷ 1 ∷ 1 ∷ 0 ∷ 0 ∷ 2 ∷ replicate 10 0 ++ (7 ∷ 8 ∷ replicate 14 0)
+
+-- a scaler with sixteen registers, and a buffer memory, in station 1
+abbrev pub scaler : Module
+scaler = record { n = 1; kind = 1; r = 16 }
+
+abbrev pub buffer : Module
+buffer = record { n = 1; kind = 4; r = 1 }
 
 abbrev pub Bench : Type 0
 Bench =
@@ -47,9 +55,9 @@ Bench =
     -- P9 seventeenth buffer word: not taken, bit 1
     × (frontOf 0 (full 1) 0 9 ≡ record { block = full 3; taken = 0 })
     -- P10 scan of one r = 16 scaler: limit 16 ends 1, limit 17 ends 2, 16 cycles each
-    × (transferOf (scanOf (withModule emptyCrate 1 1 16) 1 0 0 1 16) ≡ record { end = 1; words = 16; cycles = 16 })
-    × (transferOf (scanOf (withModule emptyCrate 1 1 16) 1 0 0 1 17) ≡ record { end = 2; words = 16; cycles = 16 })
+    × (transferOf (scanOf (withModule emptyCrate scaler) 1 0 0 1 16) ≡ record { end = 1; words = 16; cycles = 16 })
+    × (transferOf (scanOf (withModule emptyCrate scaler) 1 0 0 1 17) ≡ record { end = 2; words = 16; cycles = 16 })
     -- P11 Repeat F2 on an empty buffer, tries 3: 0 words, 3 cycles, end 2
-    × (transferOf (repeatOf (withModule emptyCrate 1 4 1) 1 0 2 1 3) ≡ record { end = 2; words = 0; cycles = 3 })
+    × (transferOf (repeatOf (withModule emptyCrate buffer) 1 0 2 1 3) ≡ record { end = 2; words = 0; cycles = 3 })
     -- P12 Stop F2 on a buffer of 2, limit 4: 2 words, 3 cycles, end 2
     × (transferOf (stopOf (withBlock emptyCrate 1 two) 1 0 2 4) ≡ record { end = 2; words = 2; cycles = 3 })

@@ -3,3 +3,4 @@ pub mod Steps
 pub mod Regrouping
 pub mod Bench
 pub mod Placing
+pub mod Finished

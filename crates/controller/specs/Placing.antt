@@ -1,10 +1,10 @@
 -- A crate line on a fit crate (01, 'Crate and run files'): the memory with its module in it, or its refusal. A refusal changes nothing.
 use Prim.Native.Nat.{ℕ}
 use mathlib.Core.List.{List}
+use Rattle.kinds.specs.declared.Module.{Module}
 use Rattle.dataway.specs.Stations.{withModule}
 use Rattle.step.specs.Modules.{moduleVerdict}
 use Rattle.step.specs.declared.Refusal.{Refusal}
-use Rattle.step.specs.declared.Module.{Module}
 use Rattle.step.specs.declared.ModuleLine.{ModuleLine}
 use Rattle.step.specs.declared.ModuleLine.the-variants.{Holds, Bad}
 use Rattle.step.specs.declared.Verdict.{Verdict}
@@ -20,7 +20,7 @@ uninstalled q m = record { verdict = Refuse q; memory = m }
 
 -- a module with its verdict
 abbrev pub judgedModuleOf : Verdict → Module → List ℕ → Installed
-judgedModuleOf Fine p m = record { verdict = Fine; memory = withModule m (p .n) (p .kind) (p .r) }
+judgedModuleOf Fine p m = record { verdict = Fine; memory = withModule m p }
 judgedModuleOf (Refuse q) p m = uninstalled q m
 
 -- a crate line on a fit crate, after a line for the station `previous`, 0 where there was none: 1, 2, 11, 10, else its module is put in

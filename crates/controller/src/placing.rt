@@ -3,7 +3,7 @@ ghost use mathlib.Core.Path.{_≡_};
 ghost use Rattle.dataway.specs.Crate.{FitCrate};
 ghost use Rattle.step.specs.declared.ModuleLine.{ModuleLine};
 ghost use Rattle.controller.specs.Placing.{Installed, placeOf};
-use step::Module;
+use kinds::Module;
 use step::Verdict;
 
 // Puts a module into a fit crate, if it may stand there.
@@ -16,7 +16,7 @@ pub fn place(memory: &mut [u32], previous: u32, held: Module) -> Verdict
     match verdict {
         Verdict::Refuse(q) => Verdict::Refuse(q),
         Verdict::Fine => {
-            dataway::put_module(memory, held.n, held.kind, held.r);
+            dataway::put_module(memory, held);
             Verdict::Fine
         }
     }

@@ -1,5 +1,5 @@
--- Laws of a fit crate memory: the test and the facts say the same, a station's block may be replaced by a fit one, Inhibit by 0 or 1, and the
--- empty crate is fit.
+-- Laws of a fit crate memory: the test and the facts say the same, the empty crate is fit, a station's block may be replaced by a fit one, and
+-- Inhibit by 0 or 1.
 -- Assumes nothing.
 use Prim.Native.Nat.{ℕ, _+_, _-_, _*_, _≤_, _<_}
 use mathlib.Core.Path.{_≡_, refl, sym, subst, _∙_}
@@ -12,9 +12,11 @@ use lib.ListN.{length, getD, set, replicate, length-set}
 use lib.Seq.{getD-set-same, getD-set-other}
 use Rattle.blocks.specs.Blocks.{blockOf, withBlock, inhibitOf}
 use Rattle.blocks.proofs.Blocks.{length-with, put-other, block-same, block-other, block-of-agree}
-use Rattle.station.specs.Cases.{every}
+use Rattle.kinds.specs.Cases.{every}
+use Rattle.kinds.specs.Table.{inTable}
 use Rattle.station.specs.Block.{FitBlock, isFitBlock, isFitHeader, headerTests, isFitSpare, isFitRegister, fitTests, isUsed, sourcesOf}
-use Rattle.station.proofs.TestLaws.{alike, every-at, every-intro, all-true, all-intro}
+use Rattle.kinds.proofs.TestLaws.{alike, every-at, every-intro, all-true, all-intro}
+use Rattle.station.specs.Kept.{Kept}
 use Rattle.station.proofs.Fitness.{fit-facts, facts-fit}
 use Rattle.dataway.specs.Crate.{isFitRest, isFitStation, crateTests, isFitCrate, FitCrate, emptyCrate}
 
@@ -66,12 +68,13 @@ facts-crate m h =
 
 -- the empty crate is fit
 pub empty-fit : FitCrate emptyCrate
-unfolding isFitCrate crateTests isFitRest isFitStation isFitBlock fitTests isFitHeader headerTests isFitSpare isFitRegister isUsed sourcesOf blockOf
+unfolding isFitCrate crateTests isFitRest isFitStation isFitBlock fitTests isFitHeader headerTests inTable isFitSpare isFitRegister isUsed sourcesOf blockOf
 empty-fit = crate-facts emptyCrate refl
 
 -- ---- one block replaced
-pub fit-with : (m : List ℕ) (n : ℕ) (b : List ℕ) → FitCrate m → 1 ≤ n → n ≤ 23 → FitBlock b → FitCrate (withBlock m n b)
-fit-with m n b f lo hi g =
+-- by that of any module
+pub fit-new : (m : List ℕ) (n : ℕ) (b : List ℕ) → FitCrate m → 1 ≤ n → n ≤ 23 → FitBlock b → FitCrate (withBlock m n b)
+fit-new m n b f lo hi g =
     let o : (w : ℕ) → w < 32 → getD (withBlock m n b) (32 * 0 + w) 0 ≡ getD m (32 * 0 + w) 0 =
     λ w h. put-other m n b (f .size) (omega arith) (g .long) 0 w h (λ e. omega arith) in
     record {
@@ -84,6 +87,10 @@ fit-with m n b f lo hi g =
           (λ (d : k ≡ n → ⊥). rw (block-other m n b (f .size) (omega arith) (g .long) k d) (f .station k p q))
           (alike k n);
     }
+
+-- by one of the same module, as each step leaves it
+pub fit-with : (m : List ℕ) (n : ℕ) (b : List ℕ) → FitCrate m → 1 ≤ n → n ≤ 23 → Kept (blockOf m n) b → FitCrate (withBlock m n b)
+fit-with m n b f lo hi kept = fit-new m n b f lo hi (kept .fit)
 
 -- ---- Inhibit replaced
 pub fit-inhibit : (m : List ℕ) (v : ℕ) → FitCrate m → v ≤ 1 → FitCrate (set m 0 v)

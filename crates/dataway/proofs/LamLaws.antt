@@ -19,7 +19,7 @@ use Rattle.blocks.proofs.Blocks.{word-block}
 use Rattle.word24.specs.Word.{bitOf}
 use Rattle.word24.proofs.BitLaws.{bit-or, bit-pow-same, bit-pow-other, bit-ext, high-bit}
 use Rattle.station.specs.Block.{statusOf, maskOf, requestOf}
-use Rattle.station.proofs.TestLaws.{alike}
+use Rattle.kinds.proofs.TestLaws.{alike}
 use Rattle.dataway.specs.Lam.{requests, patternTo, countTo, firstTo, lamOf}
 use Rattle.dataway.specs.declared.lam.LamReading.{LamReading}
 

@@ -3,3 +3,5 @@ pub mod StationLaws
 pub mod ControlLaws
 pub mod LamLaws
 pub mod Locality
+pub mod AskingLaws
+pub mod ReplyLaws

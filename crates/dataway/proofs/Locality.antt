@@ -1,22 +1,19 @@
--- What each call at the crate changes and reads: a command and a front event keep to their station (and Inhibit), a module put in too; Z, C, I and
+-- What each call at the crate changes and reads: a command and a front event keep to their station (and Inhibit); Z, C, I and
 -- the Look-at-Me reading keep to all 23. No look at a kind or a function is needed.
 -- Assumes nothing.
 use Prim.Native.Nat.{ℕ, _≤_}
-use mathlib.Core.Path.{_≡_, refl}
+use mathlib.Core.Path.{_≡_}
 use mathlib.Core.List.{List}
 use mathlib.Core.Bool.{Bool, true}
-use native.Mathlib.Omega.{arith}
 use lib.ListN.{length}
 use Rattle.regroup.specs.Local.{All, Local}
 use Rattle.regroup.proofs.Local.{local-one, local-all}
-use Rattle.station.specs.Block.{leastOf, mostOf}
 use Rattle.station.specs.Command.{commandOf}
 use Rattle.station.specs.Front.{frontOf}
-use Rattle.station.specs.Control.{moduleOf}
 use Rattle.dataway.specs.Crate.{FitCrate}
-use Rattle.dataway.specs.Stations.{replyOf, afterCommand, takenOf, afterFront, withModule}
+use Rattle.dataway.specs.Stations.{replyOf, afterCommand, takenOf, afterFront}
 use Rattle.dataway.specs.Controls.{afterZ, afterC, afterI}
-use Rattle.dataway.proofs.StationLaws.{command-block, command-fit, front-block, front-fit, module-fit}
+use Rattle.dataway.proofs.StationLaws.{command-block, command-fit, front-block, front-fit}
 use Rattle.dataway.proofs.ControlLaws.{z-fit, c-fit, i-fit}
 
 pub crate-size : (m : List ℕ) → FitCrate m → length m ≡ 768
@@ -29,7 +26,7 @@ module _ (on : ℕ → Bool) (n : ℕ) (lo : 1 ≤ n) (hi : n ≤ 23) (here : on
   unfolding afterCommand replyOf
   local-command a f w s l =
       local-one FitCrate crate-size on n lo hi here (λ (i : ℕ) (b : List ℕ). commandOf b a f w .block) (λ (i : ℕ) (b : List ℕ). commandOf b a f w .reply)
-      (λ m q. command-block m n q lo hi a f w s l .long)
+      (λ m q. command-block m n q lo hi a f w s l .fit .long)
       (λ m q. command-fit m n q lo hi a f w s l)
 
   pub local-front : (a v : ℕ) → a ≤ 15 → v ≤ 16777215
@@ -37,17 +34,8 @@ module _ (on : ℕ → Bool) (n : ℕ) (lo : 1 ≤ n) (hi : n ≤ 23) (here : on
   unfolding afterFront takenOf
   local-front a v s l =
       local-one FitCrate crate-size on n lo hi here (λ (i : ℕ) (b : List ℕ). frontOf i b a v .block) (λ (i : ℕ) (b : List ℕ). frontOf i b a v .taken)
-      (λ m q. front-block m n q lo hi a v s l .long)
+      (λ m q. front-block m n q lo hi a v s l .fit .long)
       (λ m q. front-fit m n q lo hi a v s l)
-
-  -- a module put in, with any answer that does not hang on the memory
-  pub local-module : {Out : Type 0} (o : Out) (kind r : ℕ) → kind ≤ 5 → leastOf kind ≤ r → r ≤ mostOf kind
-      → Local FitCrate on (λ (m : List ℕ). withModule m n kind r) (λ (m : List ℕ). o)
-  unfolding withModule
-  local-module o kind r k least most =
-      local-one FitCrate crate-size on n lo hi here (λ (i : ℕ) (b : List ℕ). moduleOf kind r) (λ (i : ℕ) (b : List ℕ). o)
-      (λ m q. refl)
-      (λ m q. module-fit m n q lo hi kind r k least most)
 
 -- ---- all 23, with any answer g
 module _ {Out : Type 0} (on : ℕ → Bool) (all : All on) (g : List ℕ → Out) where

@@ -8,7 +8,9 @@ use native.Mathlib.Omega.{arith}
 use borrow.Rule.Slice.PartMut.{putMid, midOf}
 use Rattle.blocks.specs.Blocks.{blockOf, withBlock, inhibitOf}
 use Rattle.blocks.proofs.Blocks.{part-block, part-back}
-use Rattle.station.specs.Block.{leastOf, mostOf, FitBlock}
+use Rattle.kinds.specs.Table.{FitModule}
+use Rattle.kinds.specs.declared.Module.{Module}
+use Rattle.station.specs.Kept.{Kept}
 use Rattle.station.specs.declared.Reply.{Reply}
 use Rattle.station.specs.Outcome.{Outcome}
 use Rattle.station.specs.Command.{commandOf}
@@ -19,29 +21,29 @@ use Rattle.station.proofs.FrontLaws.{front-kept}
 use Rattle.station.proofs.ControlLaws as control
 use Rattle.dataway.specs.Crate.{FitCrate}
 use Rattle.dataway.specs.Stations.{replyOf, afterCommand, takenOf, afterFront, withModule}
-use Rattle.dataway.proofs.CrateLaws.{fit-with}
+use Rattle.dataway.proofs.CrateLaws.{fit-new, fit-with}
 
 module _ (m : List ℕ) (n : ℕ) (h : FitCrate m) (lo : 1 ≤ n) (hi : n ≤ 23) where
   -- the block that a command leaves, and the memory
-  pub command-block : (a f w : ℕ) → a ≤ 15 → w ≤ 16777215 → FitBlock (commandOf (blockOf m n) a f w .block)
-  command-block a f w s l = command-kept (blockOf m n) (h .station n lo hi) a (omega arith) f w (omega arith) .fit
+  pub command-block : (a f w : ℕ) → a ≤ 15 → w ≤ 16777215 → Kept (blockOf m n) (commandOf (blockOf m n) a f w .block)
+  command-block a f w s l = command-kept (blockOf m n) (h .station n lo hi) a (omega arith) f w (omega arith)
 
   pub command-fit : (a f w : ℕ) → a ≤ 15 → w ≤ 16777215 → FitCrate (afterCommand m n a f w)
   unfolding afterCommand
   command-fit a f w s l = fit-with m n (commandOf (blockOf m n) a f w .block) h lo hi (command-block a f w s l)
 
   -- the block that a front event leaves, and the memory
-  pub front-block : (a v : ℕ) → a ≤ 15 → v ≤ 16777215 → FitBlock (frontOf (inhibitOf m) (blockOf m n) a v .block)
-  front-block a v s l = front-kept (blockOf m n) (h .station n lo hi) v (omega arith) (inhibitOf m) a (omega arith) .fit
+  pub front-block : (a v : ℕ) → a ≤ 15 → v ≤ 16777215 → Kept (blockOf m n) (frontOf (inhibitOf m) (blockOf m n) a v .block)
+  front-block a v s l = front-kept (blockOf m n) (h .station n lo hi) v (omega arith) (inhibitOf m) a (omega arith)
 
   pub front-fit : (a v : ℕ) → a ≤ 15 → v ≤ 16777215 → FitCrate (afterFront m n a v)
   unfolding afterFront
   front-fit a v s l = fit-with m n (frontOf (inhibitOf m) (blockOf m n) a v .block) h lo hi (front-block a v s l)
 
-  -- a module put in
-  pub module-fit : (kind r : ℕ) → kind ≤ 5 → leastOf kind ≤ r → r ≤ mostOf kind → FitCrate (withModule m n kind r)
-  unfolding withModule
-  module-fit kind r k least most = fit-with m n (moduleOf kind r) h lo hi (control.module-fit kind r (omega arith) least most)
+-- a module put in
+pub module-fit : (m : List ℕ) (p : Module) → FitCrate m → FitModule p → FitCrate (withModule m p)
+unfolding withModule
+module-fit m p h f = fit-new m (p .n) (moduleOf p) h (f .first) (f .last) (control.module-fit p f)
 
 -- ---- a block lent, from 32 n up to 32 n + 32
 module _ (m : List ℕ) (n : ℕ) where

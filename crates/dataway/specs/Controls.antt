@@ -5,10 +5,10 @@ use lib.ListN.{set}
 use Rattle.blocks.specs.Blocks.{blockOf, withBlock}
 use Rattle.station.specs.Control.{initializedOf, clearedOf}
 
--- the memory with the block of each station from 1 to k replaced by g of it
-unfoldable pub eachStation : (List ℕ → List ℕ) → ℕ → List ℕ → List ℕ
+-- the memory with the block of each station from 1 to k replaced by g of the station's number and that block
+unfoldable pub eachStation : (ℕ → List ℕ → List ℕ) → ℕ → List ℕ → List ℕ
 eachStation g zero m = m
-eachStation g (suc k) m = withBlock (eachStation g k m) (suc k) (g (blockOf m (suc k)))
+eachStation g (suc k) m = withBlock (eachStation g k m) (suc k) (g (suc k) (blockOf m (suc k)))
 
 -- I takes v, 0 or 1
 abbrev pub afterI : List ℕ → ℕ → List ℕ
@@ -16,8 +16,8 @@ afterI m v = set m 0 v
 
 -- Z zeroes every register, status, mask, head and fill and sets I to 1
 unfoldable pub afterZ : List ℕ → List ℕ
-afterZ m = afterI (eachStation initializedOf 23 m) 1
+afterZ m = afterI (eachStation (λ n. initializedOf) 23 m) 1
 
 -- C does F9 at each A below r of each station
 unfoldable pub afterC : List ℕ → List ℕ
-afterC m = eachStation clearedOf 23 m
+afterC m = eachStation (λ n. clearedOf) 23 m

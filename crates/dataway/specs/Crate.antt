@@ -6,7 +6,7 @@ use mathlib.Core.Bool.{Bool}
 use lib.ListN.{length, getD, replicate}
 use lib.Dec.{ltb, eqb}
 use Rattle.blocks.specs.Blocks.{blockOf, inhibitOf}
-use Rattle.station.specs.Cases.{allOf, every}
+use Rattle.kinds.specs.Cases.{allOf, every}
 use Rattle.station.specs.Block.{isFitBlock, FitBlock}
 
 -- block 0 after Inhibit, words 1 to 31, is 0

@@ -2,3 +2,4 @@ pub mod Crate
 pub mod Stations
 pub mod Controls
 pub mod Lam
+pub mod Asking

@@ -2,6 +2,7 @@
 use Prim.Native.Nat.{ℕ}
 use mathlib.Core.List.{List}
 use Rattle.blocks.specs.Blocks.{blockOf, withBlock, inhibitOf}
+use Rattle.kinds.specs.declared.Module.{Module}
 use Rattle.station.specs.Command.{commandOf}
 use Rattle.station.specs.Front.{frontOf}
 use Rattle.station.specs.Control.{moduleOf}
@@ -23,6 +24,6 @@ takenOf m n a v = frontOf (inhibitOf m) (blockOf m n) a v .taken
 unfoldable pub afterFront : List ℕ → (n a v : ℕ) → List ℕ
 afterFront m n a v = withBlock m n (frontOf (inhibitOf m) (blockOf m n) a v .block)
 
--- the memory with a module of this kind and r put into station N
-unfoldable pub withModule : List ℕ → (n kind r : ℕ) → List ℕ
-withModule m n kind r = withBlock m n (moduleOf kind r)
+-- the memory with a module put into its station
+unfoldable pub withModule : List ℕ → Module → List ℕ
+withModule m p = withBlock m (p .n) (moduleOf p)

@@ -2,7 +2,7 @@
 ghost use mathlib.Core.Path.{_≡_};
 ghost use lib.ListN.{length};
 ghost use Prim.Native.Nat.{_<_};
-ghost use Rattle.station.specs.Cases.{every};
+ghost use Rattle.kinds.specs.Cases.{every};
 ghost use Rattle.dataway.specs.Crate.{isFitRest, isFitStation, isFitCrate};
 use crate::INHIBIT;
 use blocks::BLOCK_WORDS;

@@ -2,10 +2,11 @@
 // test whether the memory is fit.
 ghost use mathlib.Core.Path.{_≡_};
 ghost use Prim.Native.Nat.{_≤_};
-ghost use Rattle.station.specs.Block.{leastOf, mostOf};
+ghost use Rattle.kinds.specs.Table.{FitModule};
 ghost use Rattle.dataway.specs.Crate.{FitCrate};
 ghost use Rattle.dataway.specs.Stations.{replyOf, afterCommand, takenOf, afterFront, withModule};
 use blocks::BLOCK_WORDS;
+use kinds::Module;
 use station::Reply;
 
 pub mod control;
@@ -40,13 +41,13 @@ pub fn front_event(memory: &mut [u32], n: u32, a: u32, v: u32) -> u32
     panel::front::front_event(&mut memory[from..to], inhibit, a, v)
 }
 
-// Puts a module with r registers into station n.
-pub fn put_module(memory: &mut [u32], n: u32, kind: u32, r: u32)
+// Puts a module into its station.
+pub fn put_module(memory: &mut [u32], held: Module)
     requires { ⌜ FitCrate (now memory) ⌝ }
-    requires { ⌜ (1 ≤ n) × (n ≤ 23) × (kind ≤ 5) × (leastOf kind ≤ r) × (r ≤ mostOf kind) ⌝ }
-    ensures { λ _. ⌜ now (memory .exit) ≡ withModule (now (memory .entry)) n kind r ⌝ }
+    requires { ⌜ FitModule held ⌝ }
+    ensures { λ _. ⌜ now (memory .exit) ≡ withModule (now (memory .entry)) held ⌝ }
 {
-    let from = BLOCK_WORDS * n as usize;
+    let from = BLOCK_WORDS * held.n as usize;
     let to = from + BLOCK_WORDS;
-    panel::control::put_module(&mut memory[from..to], kind, r);
+    panel::control::put_module(&mut memory[from..to], held);
 }

@@ -1,66 +1,32 @@
--- The words of a step read back as the step, and place k of a list's words is line k + 1.
+-- The words of a line read back as the line, and place k of a list's words is line k + 1.
 -- Assumes nothing.
 use Prim.Native.Nat.{ℕ, zero, suc, _+_, _*_, _≤_, _<_}
 use mathlib.Core.Path.{_≡_, refl, sym, ap, _∙_}
 use mathlib.Core.List.{List, [], _∷_, _++_}
 use native.Mathlib.Omega.{arith}
-use lib.ListN.{length, getD, set, take, drop, length-append, length-drop, take-append-drop}
+use lib.ListN.{length, getD, take, drop, length-append, length-drop, take-append-drop}
 use lib.Seq.{take-at, drop-append-add, take-append-le, drop-append-le, length-take-le}
 use Rattle.step.specs.declared.Refusal.{Refusal}
 use Rattle.step.specs.declared.Refusal.the-variants.{Garbled}
-use Rattle.step.specs.declared.Step.{Step}
-use Rattle.step.specs.declared.Step.the-variants.{Command, Front, Z, C, Inhibit, LookAtMe, Scan, Repeat, Stop}
 use Rattle.step.specs.declared.Reading.{Reading}
 use Rattle.step.specs.declared.Reading.the-variants.{Good, Bad}
 use Rattle.runfile.specs.Read.{readLine}
 use Rattle.runfile.proofs.RunLines.{reads-of}
 use Rattle.lists.specs.Words.{kindsOf, readingOf, part}
-use Rattle.sheet.specs.Sheet.{linesOf}
-use Rattle.listfile.specs.ListWords.{stepWords, listWords, fileWords}
+use Rattle.lists.proofs.StepLaws.{words-six, step-back}
+use Rattle.lines.specs.Lines.{linesOf}
+use Rattle.listfile.specs.ListWords.{lineWords, listWords, fileWords}
 
--- six words stored
-pub six-sets : (xs : List ℕ) (a b c d e f : ℕ) → length xs ≡ 6
-    → set (set (set (set (set (set xs 0 a) 1 b) 2 c) 3 d) 4 e) 5 f ≡ a ∷ b ∷ c ∷ d ∷ e ∷ f ∷ []
-six-sets [] a b c d e f l = absurd (omega arith)
-six-sets (_ ∷ []) a b c d e f l = absurd (omega arith)
-six-sets (_ ∷ _ ∷ []) a b c d e f l = absurd (omega arith)
-six-sets (_ ∷ _ ∷ _ ∷ []) a b c d e f l = absurd (omega arith)
-six-sets (_ ∷ _ ∷ _ ∷ _ ∷ []) a b c d e f l = absurd (omega arith)
-six-sets (_ ∷ _ ∷ _ ∷ _ ∷ _ ∷ []) a b c d e f l = absurd (omega arith)
-six-sets (_ ∷ _ ∷ _ ∷ _ ∷ _ ∷ _ ∷ []) a b c d e f l = refl
-six-sets (_ ∷ _ ∷ _ ∷ _ ∷ _ ∷ _ ∷ _ ∷ xs) a b c d e f l = absurd (omega arith)
-
--- ---- one step
+-- ---- one line
 -- has six words
-pub step-long : (r : Reading) → length (stepWords r) ≡ 6
-unfolding stepWords
-step-long (Good (Command n a f w)) = refl
-step-long (Good (Front n a v)) = refl
-step-long (Good Z) = refl
-step-long (Good C) = refl
-step-long (Good (Inhibit v)) = refl
-step-long (Good LookAtMe) = refl
-step-long (Good (Scan n a f to limit)) = refl
-step-long (Good (Repeat n a f limit tries)) = refl
-step-long (Good (Stop n a f limit)) = refl
-step-long (Bad q) = refl
-
--- a step is read back from its words
-pub step-back : (s : Step) → readingOf (stepWords (Good s)) ≡ Good s
-unfolding readingOf kindsOf stepWords
-step-back (Command n a f w) = refl
-step-back (Front n a v) = refl
-step-back Z = refl
-step-back C = refl
-step-back (Inhibit v) = refl
-step-back LookAtMe = refl
-step-back (Scan n a f to limit) = refl
-step-back (Repeat n a f limit tries) = refl
-step-back (Stop n a f limit) = refl
+pub line-long : (r : Reading) → length (lineWords r) ≡ 6
+unfolding lineWords
+line-long (Good s) = words-six s
+line-long (Bad q) = refl
 
 -- six zeros are garbled
-pub garbled-back : (q : Refusal) → readingOf (stepWords (Bad q)) ≡ Bad Garbled
-unfolding readingOf kindsOf stepWords
+pub garbled-back : (q : Refusal) → readingOf (lineWords (Bad q)) ≡ Bad Garbled
+unfolding readingOf kindsOf lineWords
 garbled-back q = refl
 
 -- a line is refused as garbled only
@@ -68,10 +34,11 @@ pub line-garbled : (l : List ℕ) (q : Refusal) → readLine l ≡ Bad q → q �
 line-garbled l q e = reads-of l (Bad q) (sym e) .0
 
 -- so the words of a line are read back as the line
-pub line-back : (l : List ℕ) → readingOf (stepWords (readLine l)) ≡ readLine l
+pub line-back : (l : List ℕ) → readingOf (lineWords (readLine l)) ≡ readLine l
+unfolding lineWords
 line-back l = go (readLine l) refl
   where
-    go : (r : Reading) → readLine l ≡ r → readingOf (stepWords r) ≡ r
+    go : (r : Reading) → readLine l ≡ r → readingOf (lineWords r) ≡ r
     go (Good s) e = step-back s
     go (Bad q) e = garbled-back q ∙ ap Bad (sym (line-garbled l q e))
 
@@ -79,15 +46,15 @@ line-back l = go (readLine l) refl
 words-count : (ls : List (List ℕ)) → length (listWords ls) ≡ 6 * length ls
 unfolding listWords
 words-count [] = refl
-words-count (l ∷ ls) = length-append (stepWords (readLine l)) (listWords ls) ∙ omega (arith, step-long (readLine l), words-count ls)
+words-count (l ∷ ls) = length-append (lineWords (readLine l)) (listWords ls) ∙ omega (arith, line-long (readLine l), words-count ls)
 
-words-place : (ls : List (List ℕ)) (k : ℕ) → k < length ls → part 6 (listWords ls) k ≡ stepWords (readLine (getD ls k []))
+words-place : (ls : List (List ℕ)) (k : ℕ) → k < length ls → part 6 (listWords ls) k ≡ lineWords (readLine (getD ls k []))
 unfolding listWords
 words-place [] k h = absurd (omega arith)
-words-place (l ∷ ls) zero h = take-at (stepWords (readLine l)) (listWords ls) 6 (step-long (readLine l))
+words-place (l ∷ ls) zero h = take-at (lineWords (readLine l)) (listWords ls) 6 (line-long (readLine l))
 words-place (l ∷ ls) (suc k) h =
-    let w = stepWords (readLine l) in
-    let far : 6 * suc k ≡ length w + 6 * k = omega (arith, step-long (readLine l)) in
+    let w = lineWords (readLine l) in
+    let far : 6 * suc k ≡ length w + 6 * k = omega (arith, line-long (readLine l)) in
     ap (λ (i : ℕ). take 6 (drop i (w ++ listWords ls))) far
     ∙ ap (take 6) (drop-append-add w (listWords ls) (6 * k))
     ∙ words-place ls k (omega arith)

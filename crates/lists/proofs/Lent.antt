@@ -6,7 +6,7 @@ use mathlib.Core.List.{List, [], _∷_}
 use native.Mathlib.Omega.{arith}
 use lib.ListN.{length, getD, set}
 use borrow.Rule.Slice.PartMut.{midOf, putMid}
-use Rattle.station.proofs.TestLaws.{Rest, case-else}
+use Rattle.kinds.proofs.TestLaws.{Rest, case-else}
 use Rattle.dataway.specs.Crate.{FitCrate}
 use Rattle.step.specs.declared.Refusal.the-variants.{Garbled}
 use Rattle.step.specs.declared.Reading.{Reading}

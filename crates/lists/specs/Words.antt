@@ -2,14 +2,27 @@
 use Prim.Native.Nat.{ℕ, zero, suc, _+_, _*_}
 use mathlib.Core.List.{List, [], _∷_, _++_}
 use lib.ListN.{getD, take, drop}
-use Rattle.station.specs.Cases.{Case, _does_, caseOf}
+use Rattle.kinds.specs.Cases.{Case, _does_, caseOf}
 use Rattle.step.specs.declared.Refusal.the-variants.{Garbled}
+use Rattle.step.specs.declared.Step.{Step}
 use Rattle.step.specs.declared.Step.the-variants.{Command, Front, Z, C, Inhibit, LookAtMe, Scan, Repeat, Stop}
 use Rattle.step.specs.declared.Reading.{Reading}
 use Rattle.step.specs.declared.Reading.the-variants.{Good, Bad}
 use Rattle.controller.specs.Steps.{Order, order}
 
--- which of the nine a step is, in the order of the run file's lines, with its fields in the line's order; words past them are not looked at
+-- the six words of a step: which of the nine it is, in the order of the run file's lines, then its fields in the line's order, then 0
+unfoldable pub stepWords : Step → List ℕ
+stepWords (Command n a f w) = 1 ∷ n ∷ a ∷ f ∷ w ∷ 0 ∷ []
+stepWords (Front n a v) = 2 ∷ n ∷ a ∷ v ∷ 0 ∷ 0 ∷ []
+stepWords Z = 3 ∷ 0 ∷ 0 ∷ 0 ∷ 0 ∷ 0 ∷ []
+stepWords C = 4 ∷ 0 ∷ 0 ∷ 0 ∷ 0 ∷ 0 ∷ []
+stepWords (Inhibit v) = 5 ∷ v ∷ 0 ∷ 0 ∷ 0 ∷ 0 ∷ []
+stepWords LookAtMe = 6 ∷ 0 ∷ 0 ∷ 0 ∷ 0 ∷ 0 ∷ []
+stepWords (Scan n a f to limit) = 7 ∷ n ∷ a ∷ f ∷ to ∷ limit ∷ []
+stepWords (Repeat n a f limit tries) = 8 ∷ n ∷ a ∷ f ∷ limit ∷ tries ∷ []
+stepWords (Stop n a f limit) = 9 ∷ n ∷ a ∷ f ∷ limit ∷ 0 ∷ []
+
+-- the same read back: what each first word stands for; words past a step's fields are not looked at
 unfoldable pub kindsOf : List ℕ → List (Case Reading)
 kindsOf w =
     1 does Good (Command (getD w 1 0) (getD w 2 0) (getD w 3 0) (getD w 4 0))

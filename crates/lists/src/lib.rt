@@ -7,7 +7,7 @@ ghost use Rattle.dataway.specs.Crate.{FitCrate};
 ghost use Rattle.controller.specs.Answers.{answerWords};
 ghost use Rattle.controller.specs.Steps.{leaves, gives};
 ghost use Rattle.step.specs.declared.Verdict.{Verdict};
-ghost use Rattle.lists.specs.Words.{readingOf, withPart, orderAt};
+ghost use Rattle.lists.specs.Words.{readingOf, stepWords, withPart, orderAt};
 ghost use Rattle.lists.specs.Runs.{Ran, ranOf};
 use controller::Answer;
 use step::Reading;
@@ -21,7 +21,7 @@ pub const ANSWER_WORDS: usize = 4;
 
 pub const BUFFER_WORDS: usize = 512;
 
-// The step of six words.
+// The step of six words; words past its fields are not looked at.
 pub fn read_step(words: &[u32]) -> Reading
     requires { ⌜ length (now words) ≡ 6 ⌝ }
     ensures { λ r. ⌜ r ≡ readingOf (now (words .entry)) ⌝ }
@@ -65,6 +65,43 @@ pub fn read_step(words: &[u32]) -> Reading
             limit: s,
         }),
         _ => Reading::Bad(Refusal::Garbled),
+    }
+}
+
+// Stores six words.
+pub fn put_six(out: &mut [u32], kind: u32, p: u32, q: u32, r: u32, s: u32, t: u32)
+    requires { ⌜ length (now out) ≡ 6 ⌝ }
+    ensures { λ _. ⌜ now (out .exit) ≡ kind ∷ p ∷ q ∷ r ∷ s ∷ t ∷ [] ⌝ }
+{
+    out[0] = kind;
+    out[1] = p;
+    out[2] = q;
+    out[3] = r;
+    out[4] = s;
+    out[5] = t;
+}
+
+// A step as six words.
+pub fn write_step(out: &mut [u32], step: Step)
+    requires { ⌜ length (now out) ≡ 6 ⌝ }
+    ensures { λ _. ⌜ now (out .exit) ≡ stepWords step ⌝ }
+{
+    match step {
+        Step::Command { n, a, f, w } => put_six(out, 1, n, a, f, w, 0),
+        Step::Front { n, a, v } => put_six(out, 2, n, a, v, 0, 0),
+        Step::Z => put_six(out, 3, 0, 0, 0, 0, 0),
+        Step::C => put_six(out, 4, 0, 0, 0, 0, 0),
+        Step::Inhibit { v } => put_six(out, 5, v, 0, 0, 0, 0),
+        Step::LookAtMe => put_six(out, 6, 0, 0, 0, 0, 0),
+        Step::Scan { n, a, f, to, limit } => put_six(out, 7, n, a, f, to, limit),
+        Step::Repeat {
+            n,
+            a,
+            f,
+            limit,
+            tries,
+        } => put_six(out, 8, n, a, f, limit, tries),
+        Step::Stop { n, a, f, limit } => put_six(out, 9, n, a, f, limit, 0),
     }
 }
 

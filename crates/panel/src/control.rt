@@ -3,6 +3,7 @@ ghost use mathlib.Core.Path.{_≡_};
 ghost use lib.ListN.{length};
 ghost use Rattle.station.specs.Block.{FitBlock};
 ghost use Rattle.station.specs.Control.{initializedOf, clearedOf, moduleOf};
+use kinds::Module;
 use station::block::COUNT;
 use station::block::KIND;
 use station::block::zero;
@@ -30,11 +31,11 @@ pub fn clear(b: &mut [u32])
 }
 
 // Puts a module in: its kind and its register count, all else 0.
-pub fn put_module(b: &mut [u32], kind: u32, r: u32)
+pub fn put_module(b: &mut [u32], held: Module)
     requires { ⌜ length (now b) ≡ 32 ⌝ }
-    ensures { λ _. ⌜ now (b .exit) ≡ moduleOf kind r ⌝ }
+    ensures { λ _. ⌜ now (b .exit) ≡ moduleOf held ⌝ }
 {
     zero(b);
-    b[KIND] = kind;
-    b[COUNT] = r;
+    b[KIND] = held.kind;
+    b[COUNT] = held.r;
 }

@@ -2,9 +2,12 @@
 ghost use mathlib.Core.Path.{_≡_};
 ghost use lib.ListN.{length};
 ghost use Prim.Native.Nat.{_<_};
-ghost use Rattle.station.specs.Cases.{every};
+ghost use Rattle.kinds.specs.Cases.{every};
 ghost use Rattle.station.specs.Block.{headOf, isUsed, isFitHeader, isFitSpare, isFitRegister, isFitBlock};
-use station::block::BUFFER_MEMORY;
+use kinds::BUFFER_MEMORY;
+use kinds::in_table;
+use kinds::last_head;
+use kinds::most_fill;
 use station::block::COUNT;
 use station::block::FILL;
 use station::block::HEAD;
@@ -16,29 +19,13 @@ use station::block::STATUS;
 use station::block::sources;
 use word24::word::fits_bits;
 
-// The table of kinds: the least and the most r, the last head and the most fill of each.
-const LEAST: [u32; 6] = [0, 1, 1, 1, 1, 1];
-
-const MOST: [u32; 6] = [0, 16, 16, 16, 1, 16];
-
-const LAST_HEAD: [u32; 6] = [0, 0, 0, 0, 15, 0];
-
-const MOST_FILL: [u32; 6] = [0, 0, 0, 0, 16, 0];
-
 // Words 0 to 5.
 fn is_fit_header(b: &[u32]) -> bool
     requires { ⌜ length (now b) ≡ 32 ⌝ }
     ensures { λ r. ⌜ r ≡ isFitHeader (now (b .entry)) ⌝ }
 {
     let kind = b[KIND];
-    if 6 <= kind {
-        return false;
-    }
-    let k = kind as usize;
-    if b[COUNT] < LEAST[k] {
-        return false;
-    }
-    if MOST[k] < b[COUNT] {
+    if !in_table(kind, b[COUNT]) {
         return false;
     }
     let s = sources(b);
@@ -48,10 +35,10 @@ fn is_fit_header(b: &[u32]) -> bool
     if !fits_bits(b[MASK], s) {
         return false;
     }
-    if LAST_HEAD[k] < b[HEAD] {
+    if last_head(kind) < b[HEAD] {
         return false;
     }
-    b[FILL] <= MOST_FILL[k]
+    b[FILL] <= most_fill(kind)
 }
 
 // Words 6 to 15.

@@ -1,8 +1,8 @@
 // Reads each line of standard input as a line of a run file and as a line of a crate file, and writes what it is: its number, the step
 // or 1, the module or 1. README.md says how the stored lines are grouped.
+use kinds::Module;
 use libc::STDIN_FILENO;
 use libc::STDOUT_FILENO;
-use step::Module;
 use step::ModuleLine;
 use step::Reading;
 use step::Refusal;

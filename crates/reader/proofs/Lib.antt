@@ -1,4 +1,5 @@
 -- The laws of `reader`.
+pub mod Buffers
 pub mod ReadingLaws
 pub mod Whole
-pub mod Span
+pub mod InPlace

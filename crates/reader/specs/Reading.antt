@@ -1,13 +1,17 @@
 -- The two files read byte by byte, as the reader's code does it: what each byte does to the state. Nobody has to believe this file: the law of proofs/Whole
 -- says that two files read so print exactly `sheetOf`.
-use Prim.Native.Nat.{ℕ, _+_, _≤_, _<_}
+use Prim.Native.Nat.{ℕ, _+_, _≤_}
 use mathlib.Core.Path.{_≡_}
-use mathlib.Core.Bool.{Bool, cond, _&&_}
-use mathlib.Core.List.{List, [], _∷_, _++_}
+use mathlib.Core.Bool.{Bool, true, false, cond}
+use mathlib.Core.List.{List, [], _++_}
 use lib.Dec.{ltb, eqb}
-use lib.ListN.{length, getD, take}
+use lib.ListN.{length, take}
+use Rattle.lines.specs.Cutting.{Does, Cutting, fresh, feed}
 use Rattle.runfile.specs.Read.{readModule}
 use Rattle.dataway.specs.Crate.{FitCrate, emptyCrate}
+use Rattle.step.specs.declared.Reading.{Reading}
+use Rattle.step.specs.declared.Reading.the-variants.{Good, Bad}
+use Rattle.step.specs.declared.Step.the-variants.{Command, Front, Z, C, Inhibit, LookAtMe, Scan, Repeat, Stop}
 use Rattle.step.specs.declared.Verdict.{Verdict}
 use Rattle.step.specs.declared.Verdict.the-variants.{Fine, Refuse}
 use Rattle.controller.specs.Steps.{Performed, stepOf}
@@ -16,89 +20,82 @@ use Rattle.sheet.specs.Answers.{stepText, crateText}
 use Rattle.sheet.specs.Sheet.{stationOf, lineOrder}
 use Rattle.reader.specs.declared.Reader.{Reader}
 
--- part: the first 81 bytes of the line that is being read; number: how many lines of the file were read; phase: 0 in the crate file, 1 in the run file, 2
--- once the program has ended; previous: the station of the crate line before, 0 where there was none; printed: what was printed so far
-pub record State : Type 0 where
-  pub part : List ℕ
-  pub number : ℕ
+-- what is held between lines. phase: 0 in the crate file, 1 in the run file, 2 once the program has ended; previous: the station of the crate line before, 0
+-- where there was none; printed: what was printed so far
+pub record Work : Type 0 where
   pub phase : ℕ
   pub previous : ℕ
   pub memory : List ℕ
   pub printed : List ℕ
 
--- a line may still be read
-abbrev pub opened : State → Bool
-opened s = ltb (s .number) 99999 && ltb (s .phase) 2
+abbrev pub State : Type 0
+State = Cutting Work
 
--- after a crate line for the station n: its verdict, and the memory that it left
-abbrev pub afterModule : Verdict → (n : ℕ) → List ℕ → State → State
-afterModule Fine n m s = record { part = []; number = s .number + 1; phase = 0; previous = n; memory = m; printed = s .printed }
-afterModule (Refuse q) n m s =
-    record { part = []; number = s .number + 1; phase = 2; previous = s .previous; memory = m; printed = s .printed ++ crateText (s .number + 1) q }
+-- after the crate line k for the station n: its verdict, and the memory that it left
+abbrev pub afterModule : Verdict → (n : ℕ) → List ℕ → (k : ℕ) → Work → Work
+afterModule Fine n m k s = record { phase = 0; previous = n; memory = m; printed = s .printed }
+afterModule (Refuse q) n m k s = record { phase = 2; previous = s .previous; memory = m; printed = s .printed ++ crateText k q }
 
--- after a line of the run file, with what it came to
-abbrev pub afterStep : Performed → State → State
-afterStep p s =
-    record { part = []; number = s .number + 1; phase = 1; previous = s .previous; memory = p .memory; printed = s .printed ++ stepText (s .number + 1) (p .out) }
+-- after the line k of the run file, with what it came to
+abbrev pub afterStep : Performed → (k : ℕ) → Work → Work
+afterStep p k s = record { phase = 1; previous = s .previous; memory = p .memory; printed = s .printed ++ stepText k (p .out) }
 
--- after the crate line l
-unfoldable pub moduleLine : List ℕ → State → State
-moduleLine l s = let p = installOf (s .memory) (s .previous) (readModule l) in afterModule (p .verdict) (stationOf (readModule l)) (p .memory) s
+-- the state after a line that did f
+abbrev pub next : (ℕ → Work → Work) → State → State
+next f s = record { part = []; number = s .number + 1; held = f (s .number + 1) (s .held) }
 
--- after the run line l
-unfoldable pub runLine : List ℕ → State → State
-runLine l s = afterStep (stepOf (s .memory) (lineOrder l)) s
+-- a reading that looks at the buffer that it is lent: a block transfer. Any other prints and leaves the same with any buffer: `unseen` in proofs/Buffers
+abbrev pub usesBuffer : Reading → Bool
+usesBuffer (Bad q) = false
+usesBuffer (Good (Command n a f w)) = false
+usesBuffer (Good (Front n a v)) = false
+usesBuffer (Good Z) = false
+usesBuffer (Good C) = false
+usesBuffer (Good (Inhibit v)) = false
+usesBuffer (Good LookAtMe) = false
+usesBuffer (Good (Scan n a f to limit)) = true
+usesBuffer (Good (Repeat n a f limit tries)) = true
+usesBuffer (Good (Stop n a f limit)) = true
+
+-- after the crate line l, with number k
+unfoldable pub moduleLine : List ℕ → (k : ℕ) → Work → Work
+moduleLine l k s = let p = installOf (s .memory) (s .previous) (readModule l) in afterModule (p .verdict) (stationOf (readModule l)) (p .memory) k s
+
+-- after the run line l, with number k
+unfoldable pub runLine : List ℕ → (k : ℕ) → Work → Work
+runLine l k s = afterStep (stepOf (s .memory) (lineOrder l)) k s
 
 -- after the line l of the file that is being read
-unfoldable pub answered : State → List ℕ → State
-answered s l = cond (eqb (s .phase) 1) (runLine l s) (moduleLine l s)
+unfoldable pub answered : (k : ℕ) → List ℕ → Work → Work
+answered k l s = cond (eqb (s .phase) 1) (runLine l k s) (moduleLine l k s)
 
--- a byte of a line. Of a longer line the first 81 bytes are kept, by which it is garbled
-unfoldable pub kept : State → ℕ → State
-kept s b =
-    record {
-      part = cond (ltb (length (s .part)) 81) (s .part ++ (b ∷ [])) (s .part);
-      number = s .number;
-      phase = s .phase;
-      previous = s .previous;
-      memory = s .memory;
-      printed = s .printed;
-    }
-
--- one byte of a file; LF ends a line
-unfoldable pub step : State → ℕ → State
-step s b = cond (opened s) (cond (eqb b 10) (answered s (s .part)) (kept s b)) s
-
--- bytes of a file
-abbrev pub feed : State → List ℕ → State
-feed s [] = s
-feed s (b ∷ t) = feed (step s b) t
-
--- the end of a file ends a line that has bytes
-unfoldable pub closed : State → State
-closed s = cond (opened s && ltb 0 (length (s .part))) (answered s (s .part)) s
+-- lines are read until the program has ended, and each is answered
+abbrev pub rehearsing : Does Work
+rehearsing = record { more = λ s. ltb (s .phase) 2; line = answered }
 
 -- before the crate file
 abbrev pub start : State
-start = record { part = []; number = 0; phase = 0; previous = 0; memory = emptyCrate; printed = [] }
+start = fresh (record { phase = 0; previous = 0; memory = emptyCrate; printed = [] })
 
 -- before the run file, unless the program has ended
 abbrev pub second : State → State
-second s = cond (ltb (s .phase) 2) (record { part = []; number = 0; phase = 1; previous = 0; memory = s .memory; printed = s .printed }) s
+second s = cond (ltb (s .held .phase) 2) (fresh (record { phase = 1; previous = 0; memory = s .held .memory; printed = s .held .printed })) s
 
 -- the state with q printed before
 abbrev pub under : List ℕ → State → State
-under q s = record { part = s .part; number = s .number; phase = s .phase; previous = s .previous; memory = s .memory; printed = q ++ s .printed }
+under q s =
+    let h = s .held in
+    record { part = s .part; number = s .number; held = record { phase = h .phase; previous = h .previous; memory = h .memory; printed = q ++ h .printed } }
 
 -- the bytes t lead from state a to state b, where `sent` was handed out on the way and is not in b's text any more
 pub record Took (a : State) (t : List ℕ) (b : State) : Type 0 where
   pub sent : List ℕ
-  pub same : feed a t ≡ under sent b
+  pub same : feed rehearsing a t ≡ under sent b
 
 -- the state that a reader holds with its line buffer l, crate memory m and output buffer o
 abbrev pub stateOf : Reader → List ℕ → List ℕ → List ℕ → State
 stateOf r l m o =
-    record { part = take (r .fill) l; number = r .number; phase = r .phase; previous = r .previous; memory = m; printed = take (r .at) o }
+    record { part = take (r .fill) l; number = r .number; held = record { phase = r .phase; previous = r .previous; memory = m; printed = take (r .at) o } }
 
 -- the line buffer has 81 bytes, the crate is fit, and the counts lie within the buffers
 pub record Held (s : Reader) (l m o : List ℕ) : Type 0 where
@@ -113,14 +110,3 @@ pub record Ready (s : Reader) (l m o : List ℕ) : Type 0 where
   pub lined : length l ≡ 81
   pub room : s .at + 8258 ≤ length o
   pub fit : FitCrate m
-
--- none of the bytes is LF
-abbrev pub NoLf : List ℕ → Type 0
-NoLf l = (k : ℕ) → k < length l → getD l k 0 ≡ 10 → ⊥
-
--- r is the index of the first LF from index f on, or the length
-pub record NextLf (l : List ℕ) (f r : ℕ) : Type 0 where
-  pub from : f ≤ r
-  pub within : r ≤ length l
-  pub before : (k : ℕ) → k < r → f ≤ k → getD l k 0 ≡ 10 → ⊥
-  pub there : r < length l → getD l r 0 ≡ 10

@@ -1,14 +1,14 @@
 -- From the words of two files to the report of the two files, and what a step of such words is.
 -- Assumes nothing.
-use Prim.Native.Nat.{ℕ, _+_, _*_, _≤_, _<_}
-use mathlib.Core.Path.{_≡_, sym, ap, subst, _∙_}
+use Prim.Native.Nat.{ℕ, _*_, _≤_, _<_}
+use mathlib.Core.Path.{_≡_, sym, ap, subst}
 use mathlib.Core.List.{List, []}
 use native.Mathlib.Omega.{arith}
-use lib.ListN.{length, getD, take, drop, length-append}
-use lib.Seq.{length-take-le, take-append-le, take-length}
+use lib.ListN.{length, getD, take}
+use lib.Seq.{length-take-le}
 use Rattle.runfile.specs.Read.{readLine}
-use Rattle.sheet.specs.Sheet.{linesOf}
-use Rattle.text.specs.Paste.{pasted, Put}
+use Rattle.lines.specs.Lines.{linesOf}
+use Rattle.text.proofs.Paste.{put-first}
 use Rattle.listfile.specs.ListWords.{fileWords}
 use Rattle.listfile.proofs.WordLaws.{list-count, list-step}
 use Rattle.shell.specs.Handed.{Stored}
@@ -24,28 +24,20 @@ pub file-step : (file : List ℕ) (k : ℕ) → k < length (linesOf file) → st
 file-step file k h = ap counted (list-step file k h)
 
 -- so many steps
+pub stored-words : {many : ℕ} {w : List ℕ} → length w ≡ 599994 → Stored many w → 6 * many ≤ length w
+stored-words h s = omega (arith, s .few, h)
+
 pub stored-count : {many : ℕ} {w : List ℕ} → length w ≡ 599994 → Stored many w → count (take (6 * many) w) ≤ 99999
 stored-count {many} {w} h s = omega (arith, s .few, length-take-le (6 * many) w (omega (arith, s .few, h)))
-
--- text that was put at the start of a buffer is its first bytes
-put-first : {o t p : List ℕ} {next : ℕ} → Put o 0 t p next → take next p ≡ t
-unfolding pasted
-put-first {o} {t} {p} {next} f =
-    let e : next ≡ length t = omega (arith, f .place) in
-    ap (λ (n : ℕ). take n p) e ∙ ap (take (length t)) (f .buffer) ∙ take-append-le (length t) t (drop (0 + length t) o) (omega arith) ∙ take-length t
-
--- and lies within it
-pub put-within : {us ws o p : List ℕ} {next : ℕ} → PutReport us ws o p next → next ≤ length p
-unfolding pasted
-put-within {o = o} r =
-    let e = ap length (r .put .buffer) ∙ length-append (r .text) (drop (0 + length (r .text)) o) in omega (arith, e, r .put .place)
 
 pub reported : {m n next : ℕ} {us ws o p : List ℕ} → Stored m us → Stored n ws → PutReport (take (6 * m) us) (take (6 * n) ws) o p next
     → FilesReport (take next p)
 reported {m} {n} {next} {us} {ws} {o} {p} f g r =
     record {
       firstFile = f .file;
+      firstWhole = omega (arith, f .lines, f .few);
       secondFile = g .file;
+      secondWhole = omega (arith, g .lines, g .few);
       report = subst (λ (t : List ℕ). Report (fileWords (f .file)) (fileWords (g .file)) t) (sym (put-first (r .put)))
           (subst (λ (u : List ℕ). Report u (fileWords (g .file)) (r .text)) (f .same)
           (subst (λ (w : List ℕ). Report (take (6 * m) us) w (r .text)) (g .same) (r .report)));

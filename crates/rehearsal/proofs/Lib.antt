@@ -1,3 +1,4 @@
 pub mod ListLaws
 pub mod ModuleLaws
 pub mod PairLaws
+pub mod ToldLaws

@@ -8,7 +8,7 @@ use native.Mathlib.Omega.{arith}
 use borrow.Author.Tests.{le-leb, lt-leb}
 use lib.Dec.{leb}
 use lib.ListN.{length}
-use Rattle.station.proofs.TestLaws.{both-false}
+use Rattle.kinds.proofs.TestLaws.{both-false}
 use Rattle.dataway.specs.Crate.{isFitCrate}
 use Rattle.dataway.proofs.CrateLaws.{crate-facts}
 use Rattle.step.specs.declared.Refusal.the-variants.{ShortBuffer, UnfitCrate}

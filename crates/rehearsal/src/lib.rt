@@ -4,10 +4,12 @@ pub mod crate_file;
 pub mod list;
 pub mod pair;
 pub mod run_file;
+pub mod scan;
 pub mod single;
 
 pub use crate_file::crate_line;
 pub use list::run_list;
 pub use pair::run_pair;
 pub use run_file::run_line;
+pub use scan::run_scan;
 pub use single::run_step;

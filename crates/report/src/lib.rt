@@ -1,15 +1,38 @@
-// What is printed of two lists of steps that are compared: a line for each watch that parts, and last the verdict, put into a lent buffer.
+// What is printed of two lists of steps that are compared: a line for each run of neighbouring stations that part alike, a line for each refusal number that parts, and
+// last the verdict, put into a lent buffer.
 ghost use mathlib.Core.Path.{_≡_};
-ghost use mathlib.Core.List.{[]};
-ghost use Prim.Native.Nat.{_+_, _-_, _≤_, _<_};
+ghost use Prim.Native.Nat.{_+_, _*_, _≤_};
 ghost use lib.ListN.{length};
+ghost use Rattle.text.specs.Text.{field};
 ghost use Rattle.text.specs.Paste.{Put};
 ghost use Rattle.verdict.specs.Counted.{count};
-ghost use Rattle.report.specs.Report.{lineOf, watchText, partText, WatchLines, PutPart, PutLine, PutLines, PutReport};
+ghost use Rattle.verdict.specs.Watches.{lastWatch, Watch};
+ghost use Rattle.report.specs.Report.{lineOf, PartingAt, PartsAs, alike, run, namesText, numbersText, lineText, runText, PutReport};
+ghost use Rattle.report.specs.Lines.{NoneParts, Taken, PutRuns, PutRefusals, PutLines};
 use lists::STEP_WORDS;
 use text::put_bytes;
 use text::put_field;
 use verdict::Comparison;
+use verdict::LAST_WATCH;
+
+const LAST_STATION: u32 = 23;
+
+// Where a watch parts: nowhere, or at the line of the first list that was due, the line of the second that stands there, and the line where the due one stands instead.
+pub enum Parting {
+    Nowhere,
+    At {
+        first: u32,
+        second: u32,
+        stands: u32,
+    },
+}
+
+// The last run so far, which may go on: its first station, how its stations part, and the place in the buffer for its line.
+pub struct LastRun {
+    pub low: u32,
+    pub parting: Parting,
+    pub at: usize,
+}
 
 // The line at a place of a list of so many steps; 0 past its end.
 fn line_number(place: usize, many: usize) -> u32
@@ -22,41 +45,10 @@ fn line_number(place: usize, many: usize) -> u32
     0
 }
 
-// Puts the name of watch k.
-fn put_watch(out: &mut [u8], at: usize, k: u32) -> usize
-    requires { ⌜ at + 18 ≤ length (now out) ⌝ }
-    ensures { λ r. ⌜ Put (now (out .entry)) at (watchText k) (now (out .exit)) r ⌝ }
-{
-    if k <= 23 {
-        return put_field(out, at, b"n=", k);
-    }
-    put_field(out, at, b"refused=", k - 23)
-}
-
-// Puts the line of a watch that parts.
-fn put_numbers(out: &mut [u8], at: usize, k: u32, first: u32, second: u32, stands: u32) -> usize
-    requires { ⌜ at + 80 ≤ length (now out) ⌝ }
-    ensures { λ r. ⌜ Put (now (out .entry)) at (partText k first second stands) (now (out .exit)) r ⌝ }
-{
-    let due = put_watch(out, at, k);
-    let there = put_field(out, due, b" first=", first);
-    let instead = put_field(out, there, b" second=", second);
-    let end = put_field(out, instead, b" stands=", stands);
-    put_bytes(out, end, b"\n")
-}
-
-// Puts the line of watch k, which parts at place i of the first list and place j of the second.
-fn put_parting(
-    first: &[u32],
-    second: &[u32],
-    k: u32,
-    i: usize,
-    j: usize,
-    out: &mut [u8],
-    at: usize,
-) -> usize
-    requires { ⌜ (count (now first) ≤ 99999) × (count (now second) ≤ 99999) × (at + 80 ≤ length (now out)) ⌝ }
-    ensures { λ r. ⌜ PutPart (now (first .entry)) (now (second .entry)) k i j (now (out .entry)) at (now (out .exit)) r ⌝ }
+// The parting at place i of the first list and place j of the second.
+fn parting_at(first: &[u32], second: &[u32], i: usize, j: usize) -> Parting
+    requires { ⌜ (count (now first) ≤ 99999) × (count (now second) ≤ 99999) ⌝ }
+    ensures { λ r. ⌜ PartingAt (now (first .entry)) (now (second .entry)) i j r ⌝ }
 {
     let m = first.len() / STEP_WORDS;
     let n = second.len() / STEP_WORDS;
@@ -64,38 +56,190 @@ fn put_parting(
     let due = line_number(i, m);
     let there = line_number(j, n);
     let instead = line_number(s, n);
-    put_numbers(out, at, k, due, there, instead)
+    Parting::At {
+        first: due,
+        second: there,
+        stands: instead,
+    }
 }
 
-// Puts what is printed of watch k: nothing where it sees the same in both lists.
-fn put_line(first: &[u32], second: &[u32], k: u32, out: &mut [u8], at: usize) -> usize
-    requires { ⌜ (count (now first) ≤ 99999) × (count (now second) ≤ 99999) × (at + 80 ≤ length (now out)) ⌝ }
-    ensures { λ r. ⌜ PutLine (now (first .entry)) (now (second .entry)) k (now (out .entry)) at (now (out .exit)) r ⌝ }
+// Where watch k parts.
+fn parting_of(first: &[u32], second: &[u32], k: u32) -> Parting
+    requires { ⌜ (count (now first) ≤ 99999) × (count (now second) ≤ 99999) ⌝ }
+    ensures { λ r. ⌜ PartsAs (now (first .entry)) (now (second .entry)) k r ⌝ }
 {
     let v = verdict::watch(first, second, k);
     match v {
-        Comparison::Same => at,
+        Comparison::Same => Parting::Nowhere,
         Comparison::Parted {
-            watch: n,
+            watch: _,
             first: i,
             second: j,
-        } => put_parting(first, second, n, i, j, out, at),
+        } => parting_at(first, second, i, j),
     }
 }
 
-// Puts what is printed of the watches from watch `from` on; those before it see the same in both lists.
-fn put_lines(first: &[u32], second: &[u32], from: u32, out: &mut [u8]) -> usize
-    requires { ⌜ (count (now first) ≤ 99999) × (count (now second) ≤ 99999) × (4096 ≤ length (now out)) ⌝ }
-    requires { ⌜ (1 ≤ from) × (from ≤ 35) × WatchLines (now first) (now second) (from - 1) [] ⌝ }
-    ensures { λ r. ⌜ PutLines (now (first .entry)) (now (second .entry)) 34 (now (out .entry)) (now (out .exit)) r ⌝ }
+// Two stations part alike.
+fn part_alike(x: Parting, y: Parting) -> bool
+    ensures { λ r. ⌜ r ≡ alike x y ⌝ }
 {
-    let mut at = 0;
+    match x {
+        Parting::Nowhere => match y {
+            Parting::Nowhere => true,
+            Parting::At {
+                first: _,
+                second: _,
+                stands: _,
+            } => false,
+        },
+        Parting::At {
+            first: a,
+            second: b,
+            stands: c,
+        } => match y {
+            Parting::Nowhere => false,
+            Parting::At {
+                first: d,
+                second: e,
+                stands: f,
+            } => {
+                if a != d {
+                    return false;
+                }
+                if b != e {
+                    return false;
+                }
+                c == f
+            }
+        },
+    }
+}
+
+// Puts the names of the stations from low to high.
+fn put_names(out: &mut [u8], at: usize, low: u32, high: u32) -> usize
+    requires { ⌜ at + 26 ≤ length (now out) ⌝ }
+    ensures { λ r. ⌜ Put (now (out .entry)) at (namesText low high) (now (out .exit)) r ⌝ }
+{
+    let next = put_field(out, at, b"n=", low);
+    if low == high {
+        return next;
+    }
+    put_field(out, next, b" to=", high)
+}
+
+// Puts the three lines of a parting.
+fn put_numbers(out: &mut [u8], at: usize, first: u32, second: u32, stands: u32) -> usize
+    requires { ⌜ at + 54 ≤ length (now out) ⌝ }
+    ensures { λ r. ⌜ Put (now (out .entry)) at (numbersText first second stands) (now (out .exit)) r ⌝ }
+{
+    let there = put_field(out, at, b" first=", first);
+    let instead = put_field(out, there, b" second=", second);
+    let end = put_field(out, instead, b" stands=", stands);
+    put_bytes(out, end, b"\n")
+}
+
+// Puts the line of the stations from low to high, which part as x.
+fn put_run(out: &mut [u8], at: usize, low: u32, high: u32, x: Parting) -> usize
+    requires { ⌜ at + 80 ≤ length (now out) ⌝ }
+    ensures { λ r. ⌜ Put (now (out .entry)) at (runText (run low high x)) (now (out .exit)) r ⌝ }
+{
+    match x {
+        Parting::Nowhere => at,
+        Parting::At {
+            first: f,
+            second: s,
+            stands: t,
+        } => {
+            let next = put_names(out, at, low, high);
+            put_numbers(out, next, f, s, t)
+        }
+    }
+}
+
+// Puts the line of refusal number q, which parts as x.
+fn put_refusal(out: &mut [u8], at: usize, q: u32, x: Parting) -> usize
+    requires { ⌜ at + 80 ≤ length (now out) ⌝ }
+    ensures { λ r. ⌜ Put (now (out .entry)) at (lineText (field "refused=" q) x) (now (out .exit)) r ⌝ }
+{
+    match x {
+        Parting::Nowhere => at,
+        Parting::At {
+            first: f,
+            second: s,
+            stands: t,
+        } => {
+            let next = put_field(out, at, b"refused=", q);
+            put_numbers(out, next, f, s, t)
+        }
+    }
+}
+
+// Station k, which parts as x, goes into the last run; or that run's line is put, and the station begins the next.
+fn take_station(out: &mut [u8], last: LastRun, k: u32, x: Parting) -> LastRun
+    requires { ⌜ (last .at + 80 ≤ length (now out)) × (1 ≤ k) ⌝ }
+    ensures { λ r. ⌜ Taken (alike (last .parting) x) last (now (out .entry)) k x (now (out .exit)) r ⌝ }
+{
+    let parting = last.parting;
+    let same = part_alike(parting, x);
+    if same {
+        return last;
+    }
+    let at = put_run(out, last.at, last.low, k - 1, parting);
+    LastRun {
+        low: k,
+        parting: x,
+        at: at,
+    }
+}
+
+// Puts the lines of the stations; those before station `from` part nowhere.
+fn put_runs(first: &[u32], second: &[u32], from: u32, out: &mut [u8]) -> usize
+    requires { ⌜ (count (now first) ≤ 99999) × (count (now second) ≤ 99999) × (4096 ≤ length (now out)) ⌝ }
+    requires { ⌜ (1 ≤ from) × (from ≤ 23) × NoneParts (now first) (now second) 1 from ⌝ }
+    ensures { λ r. ⌜ PutRuns (now (first .entry)) (now (second .entry)) (now (out .entry)) (now (out .exit)) r ⌝ }
+{
+    let mut last = LastRun {
+        low: 1,
+        parting: Parting::Nowhere,
+        at: 0,
+    };
     let mut k = from;
-    while k <= 34 {
-        at = put_line(first, second, k, out, at);
+    while k <= LAST_STATION {
+        let x = parting_of(first, second, k);
+        last = take_station(out, last, k, x);
         k += 1;
     }
-    at
+    let parting = last.parting;
+    put_run(out, last.at, last.low, LAST_STATION, parting)
+}
+
+// Puts the lines of the refusal numbers; those before watch `from` part nowhere.
+fn put_refusals(first: &[u32], second: &[u32], from: u32, out: &mut [u8], at: usize) -> usize
+    requires { ⌜ (count (now first) ≤ 99999) × (count (now second) ≤ 99999) × (at ≤ 80 * 24) × (4096 ≤ length (now out)) ⌝ }
+    requires { ⌜ (24 ≤ from) × (from ≤ lastWatch) × NoneParts (now first) (now second) 24 from ⌝ }
+    ensures { λ r. ⌜ PutRefusals (now (first .entry)) (now (second .entry)) (lastWatch + 1) (now (out .entry)) at (now (out .exit)) r ⌝ }
+{
+    let mut next = at;
+    let mut k = from;
+    while k <= LAST_WATCH {
+        let x = parting_of(first, second, k);
+        next = put_refusal(out, next, k - LAST_STATION, x);
+        k += 1;
+    }
+    next
+}
+
+// Puts the lines of all watches; those before watch `from` part nowhere.
+fn put_lines(first: &[u32], second: &[u32], from: u32, out: &mut [u8]) -> usize
+    requires { ⌜ (count (now first) ≤ 99999) × (count (now second) ≤ 99999) × (4096 ≤ length (now out)) ⌝ }
+    requires { ⌜ Watch from × NoneParts (now first) (now second) 1 from ⌝ }
+    ensures { λ r. ⌜ PutLines (now (first .entry)) (now (second .entry)) (now (out .entry)) (now (out .exit)) r ⌝ }
+{
+    if from > LAST_STATION {
+        return put_refusals(first, second, from, out, 0);
+    }
+    let at = put_runs(first, second, from, out);
+    put_refusals(first, second, LAST_STATION + 1, out, at)
 }
 
 // Puts the whole report.

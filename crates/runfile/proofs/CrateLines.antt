@@ -7,7 +7,7 @@ use native.Mathlib.Omega.{arith}
 use lib.ListN.{length, length-append}
 use Rattle.text.specs.Text.{bytes, decimal}
 use Rattle.text.proofs.Decimal.{length-eight}
-use Rattle.step.specs.declared.Module.{Module}
+use Rattle.kinds.specs.declared.Module.{Module}
 use Rattle.step.specs.declared.ModuleLine.{ModuleLine}
 use Rattle.step.specs.declared.ModuleLine.the-variants.{Holds, Bad}
 use Rattle.step.specs.declared.Refusal.{Refusal}

@@ -2,6 +2,7 @@
 pub mod CrateLines
 pub mod Cut
 pub mod Found
+pub mod Letters
 pub mod Numbers
 pub mod RunLines
 pub mod Turns

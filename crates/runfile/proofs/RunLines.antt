@@ -184,19 +184,19 @@ text-is-good (Stop n a f limit) h =
     rw (read-number n _ (h .0), read-number a _ (h .1), read-number f _ (h .2), read-number limit _ (h .3))
 
 -- a bad reading has the one number, garbled
-abbrev OnlyGarbled : Reading → Type 0
+abbrev pub OnlyGarbled : Reading → Type 0
 OnlyGarbled (Good s) = Unit {0}
 OnlyGarbled (Bad q) = q ≡ Garbled
 
-only-ended : (l : List ℕ) (s : Step) → OnlyGarbled (ended l s)
+pub only-ended : (l : List ℕ) (s : Step) → OnlyGarbled (ended l s)
 only-ended [] s = tt
 only-ended (b ∷ l) s = refl
 
-only-then : (t : Taken) (k : ℕ → List ℕ → Reading) → ((v : ℕ) (r : List ℕ) → OnlyGarbled (k v r)) → OnlyGarbled (andThen t k)
+pub only-then : (t : Taken) (k : ℕ → List ℕ → Reading) → ((v : ℕ) (r : List ℕ) → OnlyGarbled (k v r)) → OnlyGarbled (andThen t k)
 only-then (taken v r) k h = h v r
 only-then absent k h = refl
 
-only-head : (t : Heads) (k : ℕ → ℕ → ℕ → List ℕ → Reading) → ((n a f : ℕ) (r : List ℕ) → OnlyGarbled (k n a f r)) → OnlyGarbled (withHead t k)
+pub only-head : (t : Heads) (k : ℕ → ℕ → ℕ → List ℕ → Reading) → ((n a f : ℕ) (r : List ℕ) → OnlyGarbled (k n a f r)) → OnlyGarbled (withHead t k)
 only-head (heads n a f r) k h = h n a f r
 only-head headless k h = refl
 

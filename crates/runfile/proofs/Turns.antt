@@ -8,7 +8,7 @@ use borrow.Author.Tests.{leb-true, ltb-true, eq-eqb, ne-eqb}
 use lib.Dec.{leb, ltb, eqb}
 use lib.ListN.{length, getD, drop, drop-of-length-le}
 use lib.Seq.{drop-cons}
-use Rattle.step.specs.declared.Module.{Module}
+use Rattle.kinds.specs.declared.Module.{Module}
 use Rattle.step.specs.declared.ModuleLine.the-variants.{Holds, Bad as Spoilt}
 use Rattle.step.specs.declared.Reading.the-variants.{Good, Bad}
 use Rattle.step.specs.declared.Refusal.the-variants.{Garbled}

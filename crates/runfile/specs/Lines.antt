@@ -4,7 +4,7 @@ use Prim.Native.Nat.{ℕ, _<_}
 use mathlib.Core.Path.{_≡_}
 use mathlib.Core.List.{List, []}
 use Rattle.text.specs.Text.{bytes, fieldThen}
-use Rattle.step.specs.declared.Module.{Module}
+use Rattle.kinds.specs.declared.Module.{Module}
 use Rattle.step.specs.declared.ModuleLine.{ModuleLine}
 use Rattle.step.specs.declared.ModuleLine.the-variants.{Holds, Bad as Spoilt}
 use Rattle.step.specs.declared.Reading.{Reading}

@@ -6,7 +6,7 @@ use mathlib.Core.Bool.{Bool, true, false, cond, _&&_}
 use mathlib.Core.List.{List, [], _∷_}
 use lib.Dec.{leb, ltb, eqb}
 use Rattle.text.specs.Text.{bytes}
-use Rattle.step.specs.declared.Module.{Module}
+use Rattle.kinds.specs.declared.Module.{Module}
 use Rattle.step.specs.declared.ModuleLine.{ModuleLine}
 use Rattle.step.specs.declared.ModuleLine.the-variants.{Holds, Bad as Spoilt}
 use Rattle.step.specs.declared.Reading.{Reading}

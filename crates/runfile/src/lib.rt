@@ -14,6 +14,7 @@ use commands::read_naf;
 use modules::read_fields;
 use step::ModuleLine;
 use step::Reading;
+use step::Refusal;
 use step::Step;
 use transfers::read_repeat;
 use transfers::read_scan;
@@ -32,17 +33,25 @@ fn or_else(first: Reading, second: Reading) -> Reading
     }
 }
 
-// The step of a line of a run file. No line is in two of the nine forms, so their order does not matter.
+// The step of a line of a run file. The letter after `op=` leaves one form to try, and two for `s`.
 pub fn read_line(line: &[u8]) -> Reading
     ensures value { λ r. ⌜ r ≡ readLine (now (line .entry)) ⌝ }
     ensures meaning { λ r. ⌜ Reads (now (line .entry)) r ⌝ }
 {
-    let transfer = or_else(read_scan(line), or_else(read_repeat(line), read_stop(line)));
-    let lam = or_else(read_bare(line, b"op=lam", Step::LookAtMe), transfer);
-    let inhibit = or_else(read_inhibit(line), lam);
-    let c = or_else(read_bare(line, b"op=c", Step::C), inhibit);
-    let z = or_else(read_bare(line, b"op=z", Step::Z), c);
-    or_else(read_naf(line), or_else(read_front(line), z))
+    if line.len() < 4 {
+        return Reading::Bad(Refusal::Garbled);
+    }
+    match line[3] {
+        b'n' => read_naf(line),
+        b'f' => read_front(line),
+        b'z' => read_bare(line, b"op=z", Step::Z),
+        b'c' => read_bare(line, b"op=c", Step::C),
+        b'i' => read_inhibit(line),
+        b'l' => read_bare(line, b"op=lam", Step::LookAtMe),
+        b's' => or_else(read_scan(line), read_stop(line)),
+        b'r' => read_repeat(line),
+        _ => Reading::Bad(Refusal::Garbled),
+    }
 }
 
 // The module of a line of a crate file. Whether it may stand there is judged apart.

@@ -1,7 +1,7 @@
 // The lines of a crate file.
 use crate::fields::Number;
 use crate::fields::field_at;
-use step::Module;
+use kinds::Module;
 use step::ModuleLine;
 use step::Refusal;
 ghost use mathlib.Core.Path.{_≡_};

@@ -1,9 +1,8 @@
 -- The sheet: what the program prints of the bytes of crate.txt and run.txt (01, 'Crate and run files').
 use Prim.Native.Nat.{ℕ, _+_}
-use mathlib.Core.Bool.{cond}
 use mathlib.Core.List.{List, [], _∷_, _++_, map}
-use lib.Dec.{eqb}
-use lib.ListN.{take, replicate}
+use lib.ListN.{replicate}
+use Rattle.lines.specs.Lines.{linesOf}
 use Rattle.runfile.specs.Read.{readLine, readModule}
 use Rattle.regroup.specs.Lists.{outs}
 use Rattle.dataway.specs.Crate.{emptyCrate}
@@ -12,22 +11,8 @@ use Rattle.step.specs.declared.ModuleLine.{ModuleLine}
 use Rattle.step.specs.declared.ModuleLine.the-variants.{Holds, Bad}
 use Rattle.step.specs.declared.Verdict.the-variants.{Fine, Refuse}
 use Rattle.controller.specs.Steps.{Order, order, Out, leaves, gives}
-use Rattle.controller.specs.Placing.{Installed}
 use Rattle.rehearsal.specs.Modules.{installOf}
 use Rattle.sheet.specs.Answers.{stepText, crateText}
-
--- LF ends a line; the last may lack it. `begun` is what was read of the line so far
-abbrev pub lastLine : (begun : List ℕ) → List (List ℕ)
-lastLine [] = []
-lastLine (b ∷ begun) = (b ∷ begun) ∷ []
-
-abbrev pub cut : (begun : List ℕ) → List ℕ → List (List ℕ)
-cut begun [] = lastLine begun
-cut begun (b ∷ file) = cond (eqb b 10) (begun ∷ cut [] file) (cut (begun ++ (b ∷ [])) file)
-
--- the lines of a file; those past 99,999 are not read
-unfoldable pub linesOf : List ℕ → List (List ℕ)
-linesOf file = take 99999 (cut [] file)
 
 -- ---- crate.txt: what its lines come to, the crate, or the number of the first bad line and its refusal
 pub data Built : Type 0 where

@@ -1,44 +1,50 @@
 // The lines of one step, and of a crate line that is refused, put into a lent buffer. Each call says what all of the buffer holds after it.
 ghost use mathlib.Core.Path.{_≡_};
-ghost use mathlib.Core.List.{_++_};
-ghost use Prim.Native.Nat.{_+_, _*_, _≤_, min};
+ghost use Prim.Native.Nat.{_+_, _*_, _≤_};
 ghost use lib.ListN.{length, take};
-ghost use Rattle.text.specs.Text.{decimal};
 ghost use Rattle.text.specs.Paste.{Put};
+ghost use Rattle.controller.specs.declared.Answer.{Answer};
 ghost use Rattle.sheet.specs.Answers.{body, stepLine, wordLine, wordLines, stored, stepText, crateText};
 use controller::Answer;
+use dataway::lam::LamReading;
+use lines::least;
+use station::Reply;
 use step::Refusal;
 use text::put_bytes;
 use text::put_field;
+use transfer::Transfer;
 
 // The most bytes that one step prints: a line of 66 bytes, and 512 word lines of 16.
 pub const STEP_ROOM: usize = 8258;
 
-// The lesser of two numbers.
-pub fn least(a: usize, b: usize) -> usize
-    ensures { λ r. ⌜ (r ≤ a) × (r ≤ b) ⌝ }
-    ensures { λ r. ⌜ r ≡ min a b ⌝ }
+// Puts the fields of a command's answer.
+fn put_reply(out: &mut [u8], at: usize, p: Reply) -> usize
+    requires { ⌜ at + 50 ≤ length (now out) ⌝ }
+    ensures { λ r. ⌜ Put (now (out .entry)) at (body (Answer.Replied p)) (now (out .exit)) r ⌝ }
 {
-    if a < b { a } else { b }
+    let after_x = put_field(out, at, b" x=", p.x);
+    let after_q = put_field(out, after_x, b" q=", p.q);
+    put_field(out, after_q, b" r=", p.r)
 }
 
-// Puts three fields.
-fn put_three(
-    out: &mut [u8],
-    at: usize,
-    first: &[u8],
-    x: u32,
-    second: &[u8],
-    y: u32,
-    third: &[u8],
-    z: u32,
-) -> usize
-    requires { ⌜ at + length (now first) + length (now second) + length (now third) + 30 ≤ length (now out) ⌝ }
-    ensures { λ r. ⌜ Put (now (out .entry)) at ((now (first .entry) ++ decimal x) ++ (now (second .entry) ++ decimal y) ++ (now (third .entry) ++ decimal z)) (now (out .exit)) r ⌝ }
+// Puts the fields of the Look-at-Me reading.
+fn put_reading(out: &mut [u8], at: usize, p: LamReading) -> usize
+    requires { ⌜ at + 50 ≤ length (now out) ⌝ }
+    ensures { λ r. ⌜ Put (now (out .entry)) at (body (Answer.Looked p)) (now (out .exit)) r ⌝ }
 {
-    let next = put_field(out, at, first, x);
-    let last = put_field(out, next, second, y);
-    put_field(out, last, third, z)
+    let after_l = put_field(out, at, b" l=", p.l);
+    let after_count = put_field(out, after_l, b" count=", p.count);
+    put_field(out, after_count, b" first=", p.first)
+}
+
+// Puts the fields of a transfer's answer.
+fn put_transfer(out: &mut [u8], at: usize, p: Transfer) -> usize
+    requires { ⌜ at + 50 ≤ length (now out) ⌝ }
+    ensures { λ r. ⌜ Put (now (out .entry)) at (body (Answer.Transferred p)) (now (out .exit)) r ⌝ }
+{
+    let after_end = put_field(out, at, b" end=", p.end);
+    let after_words = put_field(out, after_end, b" words=", p.words);
+    put_field(out, after_words, b" cycles=", p.cycles)
 }
 
 // Puts the fields of an answer.
@@ -47,33 +53,11 @@ fn put_body(out: &mut [u8], at: usize, answer: Answer) -> usize
     ensures { λ r. ⌜ Put (now (out .entry)) at (body answer) (now (out .exit)) r ⌝ }
 {
     match answer {
-        Answer::Replied(p) => put_three(out, at, b" x=", p.x, b" q=", p.q, b" r=", p.r),
+        Answer::Replied(p) => put_reply(out, at, p),
         Answer::Taken(v) => put_field(out, at, b" taken=", v),
         Answer::Done => put_bytes(out, at, b" done=1"),
-        Answer::Looked(p) => {
-            put_three(
-                out,
-                at,
-                b" l=",
-                p.l,
-                b" count=",
-                p.count,
-                b" first=",
-                p.first,
-            )
-        }
-        Answer::Transferred(p) => {
-            put_three(
-                out,
-                at,
-                b" end=",
-                p.end,
-                b" words=",
-                p.words,
-                b" cycles=",
-                p.cycles,
-            )
-        }
+        Answer::Looked(p) => put_reading(out, at, p),
+        Answer::Transferred(p) => put_transfer(out, at, p),
         Answer::Refused(q) => put_field(out, at, b" refused=", step::refusal_number(q)),
     }
 }

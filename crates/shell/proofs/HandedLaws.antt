@@ -11,10 +11,12 @@ use lib.ListN.{length, take, drop, length-take, length-drop}
 use lib.Seq.{take-take, take-add}
 use Rattle.dataway.specs.Crate.{FitCrate, emptyCrate}
 use Rattle.dataway.proofs.CrateLaws.{empty-fit}
+use Rattle.lines.specs.Cutting.{fresh as begin, feed, closed}
+use Rattle.lines.proofs.CuttingLaws.{feed-append, closed-shut}
 use Rattle.reader.specs.declared.Reader.{Reader}
-use Rattle.reader.specs.Reading.{State, feed, closed, start, second, under, stateOf, Took, Held, Ready}
-use Rattle.reader.proofs.ReadingLaws.{states, feed-append}
-use Rattle.reader.proofs.Whole.{feed-under, closed-under, took-both, took-none, closed-shut, shut-ended, sheet-law}
+use Rattle.reader.specs.Reading.{State, rehearsing, start, second, under, stateOf, Took, Held, Ready}
+use Rattle.reader.proofs.ReadingLaws.{states, shut-ended}
+use Rattle.reader.proofs.Whole.{feed-under, closed-under, took-both, took-none, sheet-law}
 use Rattle.shell.specs.Handed.{Reached, Closed, Handed}
 
 -- what is said only of work that went well holds of work that failed
@@ -43,8 +45,8 @@ pub reached-both : {a b c : State} → Reached a b → Reached b c → Reached a
 reached-both f g = record { read = f .read ++ g .read; took = took-both (f .took) (g .took) }
 
 -- room is made, and then the file ends
-pub ended : {a b c : State} → Took a [] b → c ≡ closed b → Closed a c
-ended {a} {b} {c} f e = record { read = []; sent = f .sent; same = ap closed (f .same) ∙ closed-under (f .sent) b ∙ ap (under (f .sent)) (sym e) }
+pub ended : {a b c : State} → Took a [] b → c ≡ closed rehearsing b → Closed a c
+ended {a} {b} {c} f e = record { read = []; sent = f .sent; same = ap (closed rehearsing) (f .same) ∙ closed-under (f .sent) b ∙ ap (under (f .sent)) (sym e) }
 
 -- some bytes of a file, and then the rest of it
 pub closed-both : {a b c : State} → Reached a b → Closed b c → Closed a c
@@ -52,59 +54,59 @@ closed-both {a} {b} {c} f g =
     record {
       read = f .read ++ g .read;
       sent = f .took .sent ++ g .sent;
-      same = ap closed (feed-append a (f .read) (g .read))
-          ∙ ap (λ (x : State). closed (feed x (g .read))) (f .took .same)
-          ∙ ap closed (feed-under (f .took .sent) b (g .read))
-          ∙ closed-under (f .took .sent) (feed b (g .read))
+      same = ap (closed rehearsing) (feed-append rehearsing a (f .read) (g .read))
+          ∙ ap (λ (x : State). closed rehearsing (feed rehearsing x (g .read))) (f .took .same)
+          ∙ ap (closed rehearsing) (feed-under (f .took .sent) b (g .read))
+          ∙ closed-under (f .took .sent) (feed rehearsing b (g .read))
           ∙ ap (under (f .took .sent)) (g .same)
-          ∙ states refl refl refl refl refl (sym (append-assoc (f .took .sent) (g .sent) (c .printed)));
+          ∙ states refl refl refl refl refl (sym (append-assoc (f .took .sent) (g .sent) (c .held .printed)));
     }
 
 second-under : (q : List ℕ) (s : State) → second (under q s) ≡ under q (second s)
-second-under q s = go (ltb (s .phase) 2)
+second-under q s = go (ltb (s .held .phase) 2)
   where
-    go : (t : Bool) → cond t (record { part = []; number = 0; phase = 1; previous = 0; memory = s .memory; printed = q ++ s .printed }) (under q s)
-        ≡ under q (cond t (record { part = []; number = 0; phase = 1; previous = 0; memory = s .memory; printed = s .printed }) s)
+    go : (t : Bool) → cond t (begin (record { phase = 1; previous = 0; memory = s .held .memory; printed = q ++ s .held .printed })) (under q s)
+        ≡ under q (cond t (begin (record { phase = 1; previous = 0; memory = s .held .memory; printed = s .held .printed })) s)
     go true = refl
     go false = refl
 
 -- a crate line was refused: the run file is not read
-second-shut : (c : State) → 2 ≤ c .phase → second c ≡ c
+second-shut : (c : State) → 2 ≤ c .held .phase → second c ≡ c
 second-shut c h =
-    ap (λ (t : Bool). cond t (record { part = []; number = 0; phase = 1; previous = 0; memory = c .memory; printed = c .printed }) c) (le-ltb (c .phase) 2 h)
+    ap (λ (t : Bool). cond t (begin (record { phase = 1; previous = 0; memory = c .held .memory; printed = c .held .printed })) c) (le-ltb (c .held .phase) 2 h)
 
-closed-ended : (c : State) → 2 ≤ c .phase → Closed (second c) c
-closed-ended c h = record { read = []; sent = []; same = ap closed (second-shut c h) ∙ closed-shut c (shut-ended c h) }
+closed-ended : (c : State) → 2 ≤ c .held .phase → Closed (second c) c
+closed-ended c h = record { read = []; sent = []; same = ap (closed rehearsing) (second-shut c h) ∙ closed-shut rehearsing c (shut-ended c h) }
 
 -- else it is read from its first line on
-second-open : (c : State) → c .phase < 2
-    → record { part = []; number = 0; phase = 1; previous = 0; memory = c .memory; printed = c .printed } ≡ second c
+second-open : (c : State) → c .held .phase < 2
+    → begin (record { phase = 1; previous = 0; memory = c .held .memory; printed = c .held .printed }) ≡ second c
 second-open c h =
-    sym (ap (λ (t : Bool). cond t (record { part = []; number = 0; phase = 1; previous = 0; memory = c .memory; printed = c .printed }) c) (lt-ltb (c .phase) 2 h))
+    sym (ap (λ (t : Bool). cond t (begin (record { phase = 1; previous = 0; memory = c .held .memory; printed = c .held .printed })) c) (lt-ltb (c .held .phase) 2 h))
 
 -- both files
-handed : {c d : State} → Closed start c → Closed (second c) d → Handed (d .printed)
+handed : {c d : State} → Closed start c → Closed (second c) d → Handed (d .held .printed)
 handed {c} {d} f g =
     record {
       crateFile = f .read;
       runFile = g .read;
       sent = f .sent ++ g .sent;
-      same = append-assoc (f .sent) (g .sent) (d .printed)
-          ∙ sym (ap (λ (x : State). f .sent ++ x .printed) (g .same))
-          ∙ sym (ap (λ (x : State). x .printed) (closed-under (f .sent) (feed (second c) (g .read))))
-          ∙ sym (ap (λ (x : State). closed x .printed) (feed-under (f .sent) (second c) (g .read)))
-          ∙ sym (ap (λ (x : State). closed (feed x (g .read)) .printed) (second-under (f .sent) c))
-          ∙ sym (ap (λ (x : State). closed (feed (second x) (g .read)) .printed) (f .same))
+      same = append-assoc (f .sent) (g .sent) (d .held .printed)
+          ∙ sym (ap (λ (x : State). f .sent ++ x .held .printed) (g .same))
+          ∙ sym (ap (λ (x : State). x .held .printed) (closed-under (f .sent) (feed rehearsing (second c) (g .read))))
+          ∙ sym (ap (λ (x : State). closed rehearsing x .held .printed) (feed-under (f .sent) (second c) (g .read)))
+          ∙ sym (ap (λ (x : State). closed rehearsing (feed rehearsing x (g .read)) .held .printed) (second-under (f .sent) c))
+          ∙ sym (ap (λ (x : State). closed rehearsing (feed rehearsing (second x) (g .read)) .held .printed) (f .same))
           ∙ sheet-law (f .read) (g .read);
     }
 
 -- the crate file alone, where one of its lines was refused
-pub handed-crate : {a c : State} → a ≡ start → Closed a c → 2 ≤ c .phase → Handed (c .printed)
+pub handed-crate : {a c : State} → a ≡ start → Closed a c → 2 ≤ c .held .phase → Handed (c .held .printed)
 handed-crate {a} {c} e f h = handed (subst (λ (x : State). Closed x c) e f) (closed-ended c h)
 
 -- the crate file, and then the run file from the state b
-pub handed-both : {a b c d : State} → a ≡ start → Closed a c → c .phase < 2
-    → b ≡ record { part = []; number = 0; phase = 1; previous = 0; memory = c .memory; printed = c .printed } → Closed b d → Handed (d .printed)
+pub handed-both : {a b c d : State} → a ≡ start → Closed a c → c .held .phase < 2
+    → b ≡ begin (record { phase = 1; previous = 0; memory = c .held .memory; printed = c .held .printed }) → Closed b d → Handed (d .held .printed)
 handed-both {a} {b} {c} {d} e f h k g =
     handed (subst (λ (x : State). Closed x c) e f) (subst (λ (x : State). Closed x d) (k ∙ second-open c h) g)
 

@@ -1,44 +1,49 @@
 -- Parts of a run file, one after the other, are stored as its words.
 -- Assumes nothing.
-use Prim.Native.Nat.{ℕ}
+use Prim.Native.Nat.{ℕ, _-_, _≤_, _<_}
 use mathlib.Core.Path.{_≡_, refl, sym, ap, _∙_}
+use mathlib.Core.Bool.{true, false}
 use mathlib.Core.List.{List, [], _++_}
 use native.Mathlib.Omega.{arith}
-use lib.ListN.{length}
-use Rattle.sheet.specs.Sheet.{linesOf}
-use Rattle.listfile.specs.ListWords.{listWords, fileWords}
-use Rattle.listfile.specs.Listing.{ListState, feed, closed, start, stateOf, Held}
+use lib.Dec.{ltb}
+use lib.ListN.{length, take}
+use lib.Seq.{take-all}
+use Rattle.lines.specs.Lines.{cut, linesOf}
+use Rattle.lines.specs.Cutting.{Cutting, fresh, feed, closed}
+use Rattle.lines.proofs.CuttingLaws.{feed-append}
+use Rattle.lines.proofs.Counting.{whole-more}
+use Rattle.listfile.specs.Listing.{storing, stateOf, Held}
 use Rattle.listfile.specs.declared.ListReader.{ListReader}
-use Rattle.listfile.proofs.ListingLaws.{feed-append}
 use Rattle.listfile.proofs.Whole.{words-held, lines-held}
 use Rattle.shell.specs.Handed.{Listed, Stored}
 
-pub listed-none : (a : ListState) → Listed a a
-listed-none a = record { read = []; same = refl }
+-- before the file
+pub listed-none : Listed (fresh [])
+listed-none = record { read = []; whole = omega arith; same = refl }
 
-pub listed-one : {a b : ListState} (t : List ℕ) → b ≡ feed a t → Listed a b
-listed-one t e = record { read = t; same = e }
-
-pub listed-both : {a b c : ListState} → Listed a b → Listed b c → Listed a c
-listed-both {a} f g =
+-- one part more, with no line past the last that is read
+pub listed-more : {a b : Cutting (List ℕ)} (t : List ℕ) → Listed a → 0 < length t → ltb (99999 - a .number) (length (cut [] t)) ≡ false
+    → b ≡ feed storing a t → Listed b
+listed-more {a} t f some past e =
     record {
-      read = f .read ++ g .read;
-      same = g .same ∙ ap (λ (x : ListState). feed x (g .read)) (f .same) ∙ sym (feed-append a (f .read) (g .read));
+      read = f .read ++ t;
+      whole = whole-more storing (λ w. refl) [] (f .read) t a (f .whole) (f .same) some past;
+      same = e ∙ ap (λ (x : Cutting (List ℕ)). feed storing x t) (f .same) ∙ sym (feed-append storing (fresh []) (f .read) t);
     }
 
--- no file, no line
-pub stored-none : (w : List ℕ) → Stored 0 w
-unfolding fileWords listWords linesOf
-stored-none w = record { file = []; few = omega arith; lines = refl; same = refl }
+-- all lines of such a file are read
+all-read : (file : List ℕ) → length (cut [] file) ≤ 99999 → linesOf file ≡ cut [] file
+unfolding linesOf
+all-read file h = take-all 99999 (cut [] file) h
 
-pub stored-all : {a b : ListState} → a ≡ start → Listed a b → (t : ListReader) (l x : List ℕ) → Held t l x → stateOf t l x ≡ closed b → Stored (t .number) x
-stored-all e f t l x h g =
-    let c : stateOf t l x ≡ closed (feed start (f .read)) =
-    g ∙ ap closed (f .same) ∙ ap (λ (y : ListState). closed (feed y (f .read))) e in
+-- the end of the file
+pub stored-all : {b : Cutting (List ℕ)} → Listed b → (t : ListReader) (l x : List ℕ) → Held t l x → stateOf t l x ≡ closed storing b → Stored (t .number) x
+stored-all f t l x h g =
+    let c : stateOf t l x ≡ closed storing (feed storing (fresh []) (f .read)) = g ∙ ap (closed storing) (f .same) in
     record {
       file = f .read;
       few = h .within;
-      lines = lines-held t l x (f .read) h c;
+      lines = lines-held t l x (f .read) h c ∙ ap length (all-read (f .read) (f .whole));
       same = words-held t l x (f .read) h c;
     }
 

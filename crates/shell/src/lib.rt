@@ -1,7 +1,11 @@
-// Opens, reads and writes: hands the bytes of two files to `reader`, and what it printed to standard output. What cannot be read or written is said on
-// standard error.
+// Opens, reads and writes: hands the bytes of two files to `reader`, and what it printed to standard output. What cannot be had is said on standard error,
+// a line each.
+mod arguments;
 mod steps;
 
+pub use arguments::Files;
+pub use arguments::files_named;
+pub use steps::Listing;
 pub use steps::take_list;
 ghost use mathlib.Core.Path.{_≡_};
 ghost use mathlib.Core.Bool.{true};
@@ -13,39 +17,86 @@ ghost use Rattle.reader.specs.Reading.{stateOf, Held, Ready, Took};
 ghost use Rattle.shell.specs.Handed.{Reached, Closed, Handed};
 use libc::STDERR_FILENO;
 use libc::STDOUT_FILENO;
-use reader::LINES;
+use lines::LINES;
+use lines::has_past;
 use reader::Reader;
 use sheet::STEP_ROOM;
+
+// Says something of a file.
+fn say(path: &[u8], what: &[u8]) {
+    io::write_all(STDERR_FILENO, path);
+    io::write_all(STDERR_FILENO, what);
+}
+
+// Says that a file cannot be read, what comes of that, and why.
+fn say_unread(path: &[u8], so: &[u8]) {
+    io::write_all(STDERR_FILENO, b"cannot read ");
+    io::write_all(STDERR_FILENO, path);
+    os::fail(so);
+}
+
+// Opens the file at path. Where it cannot, says that it is missing, or why it cannot be read, and what comes of that.
+fn open(path: &[u8], missing: &[u8], unread: &[u8]) -> i32 {
+    let fd = os::open_read(path);
+    if fd >= 0 {
+        return fd;
+    }
+    if os::errno() == libc::ENOENT {
+        say(path, missing);
+        return fd;
+    }
+    say_unread(path, unread);
+    fd
+}
+
+// What a read gave: so many bytes, and none at the end of a file. ok where it did not fail.
+struct Got {
+    ok: bool,
+    count: usize,
+}
+
+// Reads once. Where it cannot, says so, and what comes of that.
+fn read_some(fd: i32, path: &[u8], text: &mut [u8], unread: &[u8]) -> Got
+    ensures { λ r. ⌜ r .count ≤ length (now (text .exit)) ⌝ }
+{
+    let got = libc::read(fd, text);
+    if got < 0 {
+        say_unread(path, unread);
+        return Got {
+            ok: false,
+            count: 0,
+        };
+    }
+    Got {
+        ok: true,
+        count: io::count(got, text),
+    }
+}
+
+// What was written: ok where it was all of it, and its length in the output buffer.
+pub struct Told {
+    pub ok: bool,
+    pub at: usize,
+}
+
+// Writes the first `at` bytes out. Where it cannot, says so.
+pub fn write_out(out: &[u8], at: usize, what: &[u8]) -> Told
+    requires { ⌜ at ≤ length (now out) ⌝ }
+    ensures { λ r. ⌜ r .at ≡ at ⌝ }
+{
+    let ok = io::write_all(STDOUT_FILENO, &out[..at]);
+    if !ok {
+        io::write_all(STDERR_FILENO, b"cannot write ");
+        io::write_all(STDERR_FILENO, what);
+        os::fail(b"; what was written is not all of it");
+    }
+    Told { ok: ok, at: at }
+}
 
 // What a turn of the work left: ok where all that was printed could be written.
 pub struct Turn {
     pub ok: bool,
     pub reader: Reader,
-}
-
-// Says that a file cannot be read, and why.
-fn say_unread(path: &[u8]) {
-    io::write_all(STDERR_FILENO, b"cannot read ");
-    io::write_all(STDERR_FILENO, path);
-    os::fail(b"; what was not read counts as missing");
-}
-
-// Says why a file cannot be opened, unless it is missing.
-fn say_unopened(path: &[u8]) {
-    if os::errno() != libc::ENOENT {
-        say_unread(path);
-    }
-}
-
-// Writes the first `at` bytes out, and says so where it fails.
-fn write_out(out: &[u8], at: usize) -> bool
-    requires { ⌜ at ≤ length (now out) ⌝ }
-{
-    let ok = io::write_all(STDOUT_FILENO, &out[..at]);
-    if !ok {
-        os::fail(b"cannot write the sheet; what was written is not all of it");
-    }
-    ok
 }
 
 // Writes the output buffer out where it may lack room for one more line.
@@ -62,9 +113,9 @@ fn make_room(s: Reader, line: &[u8], memory: &[u32], out: &[u8]) -> Turn
             reader: s,
         };
     }
-    let ok = write_out(out, at);
+    let told = write_out(out, at, b"the sheet");
     Turn {
-        ok: ok,
+        ok: told.ok,
         reader: Reader {
             fill: s.fill,
             number: s.number,
@@ -99,6 +150,21 @@ fn take_text(text: &[u8], s: Reader, line: &mut [u8], memory: &mut [u32], out: &
     }
 }
 
+// The file may have bytes that count after text, which led from one state to the other. Lines past the last that is read do not, and that is said.
+fn goes_on(path: &[u8], text: &[u8], before: Reader, after: Reader) -> bool {
+    if after.phase >= 2 {
+        return false;
+    }
+    if after.number < LINES {
+        return true;
+    }
+    let past = has_past(text, before.number as usize);
+    if past {
+        say(path, b" has lines past 99,999, which are not read\n");
+    }
+    !past
+}
+
 // What one read left: more where the file may have bytes that count.
 pub struct Part {
     pub more: bool,
@@ -121,27 +187,20 @@ fn take_some(
     ensures { λ r. ⌜ Held (r .reader) (now (line .exit)) (now (memory .exit)) (now (out .exit)) ⌝ }
     ensures { λ r. ⌜ (r .ok ≡ true → Reached (stateOf s (now (line .entry)) (now (memory .entry)) (now (out .entry))) (stateOf (r .reader) (now (line .exit)) (now (memory .exit)) (now (out .exit)))) ⌝ }
 {
-    let got = libc::read(fd, text);
-    if got < 0 {
-        say_unread(path);
+    let got = read_some(fd, path, text, b"; what was not read counts as missing");
+    let n = got.count;
+    if n == 0 {
         return Part {
             more: false,
             ok: true,
             reader: s,
         };
     }
-    if got == 0 {
-        return Part {
-            more: false,
-            ok: true,
-            reader: s,
-        };
-    }
-    let n = io::count(got, text);
     let t = take_text(&text[..n], s, line, memory, out);
     let r = t.reader;
+    let more = goes_on(path, &text[..n], s, r);
     Part {
-        more: r.number < LINES && r.phase < 2,
+        more: more,
         ok: t.ok,
         reader: r,
     }
@@ -219,9 +278,12 @@ fn take_file(
     ensures { λ r. ⌜ Held (r .reader) (now (line .exit)) (now (memory .exit)) (now (out .exit)) ⌝ }
     ensures { λ r. ⌜ (r .ok ≡ true → Closed (stateOf s (now (line .entry)) (now (memory .entry)) (now (out .entry))) (stateOf (r .reader) (now (line .exit)) (now (memory .exit)) (now (out .exit)))) ⌝ }
 {
-    let fd = os::open_read(path);
+    let fd = open(
+        path,
+        b" is missing; it counts as empty\n",
+        b"; what was not read counts as missing",
+    );
     if fd < 0 {
-        say_unopened(path);
         return end_file(s, line, memory, out);
     }
     let t = take_open(fd, path, text, s, line, memory, out);
@@ -238,8 +300,11 @@ fn flush(s: Reader, out: &[u8]) -> Turn
     ensures { λ r. ⌜ r .reader ≡ s ⌝ }
 {
     let at = s.at;
-    let ok = write_out(out, at);
-    Turn { ok: ok, reader: s }
+    let told = write_out(out, at, b"the sheet");
+    Turn {
+        ok: told.ok,
+        reader: s,
+    }
 }
 
 // Rehearses the run of one file on the crate of another, in lent buffers: text for what is read, line for a line's first bytes, memory for the crate, which

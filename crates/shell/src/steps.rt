@@ -1,16 +1,19 @@
-// Opens and reads a run file, and stores its steps as a list of words.
+// Opens and reads a run file, and stores its steps as a list of words. What is not read whole is no list.
 ghost use mathlib.Core.Path.{_≡_};
+ghost use mathlib.Core.Bool.{true};
 ghost use lib.ListN.{length};
 ghost use Rattle.listfile.specs.Listing.{stateOf, Held};
 ghost use Rattle.shell.specs.Handed.{Listed, Stored};
-use crate::say_unopened;
-use crate::say_unread;
-use listfile::LINES;
+use crate::open;
+use crate::read_some;
+use crate::say;
+use lines::has_past;
 use listfile::ListReader;
 
-// What one read left: more where the file may have bytes that count.
+// What one read left: more where the file may have bytes that count, whole where none was lost.
 pub struct ListPart {
     pub more: bool,
+    pub whole: bool,
     pub reader: ListReader,
 }
 
@@ -24,32 +27,42 @@ fn take_part(
     words: &mut [u32],
 ) -> ListPart
     requires { ⌜ Held s (now line) (now words) ⌝ }
+    requires { ⌜ Listed (stateOf s (now line) (now words)) ⌝ }
     ensures { λ r. ⌜ Held (r .reader) (now (line .exit)) (now (words .exit)) ⌝ }
-    ensures { λ r. ⌜ Listed (stateOf s (now (line .entry)) (now (words .entry))) (stateOf (r .reader) (now (line .exit)) (now (words .exit))) ⌝ }
+    ensures { λ r. ⌜ (r .whole ≡ true → Listed (stateOf (r .reader) (now (line .exit)) (now (words .exit)))) ⌝ }
 {
-    let got = libc::read(fd, text);
-    if got < 0 {
-        say_unread(path);
+    let got = read_some(fd, path, text, b"; no verdict");
+    let n = got.count;
+    if n == 0 {
         return ListPart {
             more: false,
+            whole: got.ok,
             reader: s,
         };
     }
-    if got == 0 {
+    let past = has_past(&text[..n], s.number);
+    if past {
+        say(path, b" has lines past 99,999; no verdict\n");
         return ListPart {
             more: false,
+            whole: false,
             reader: s,
         };
     }
-    let n = io::count(got, text);
-    let r = listfile::take_text(&text[..n], s, line, words);
     ListPart {
-        more: r.number < LINES,
-        reader: r,
+        more: true,
+        whole: true,
+        reader: listfile::take_text(&text[..n], s, line, words),
     }
 }
 
-// Reads and takes an open file to its end, or as far as its bytes count; the turns are counted down as in `take_open`.
+// What reading a file left: whole where none of it was lost.
+pub struct ListTurn {
+    pub whole: bool,
+    pub reader: ListReader,
+}
+
+// Reads and takes an open file to its end; the turns are counted down as in `take_open`.
 fn take_parts(
     fd: i32,
     path: &[u8],
@@ -57,10 +70,11 @@ fn take_parts(
     s: ListReader,
     line: &mut [u8],
     words: &mut [u32],
-) -> ListReader
+) -> ListTurn
     requires { ⌜ Held s (now line) (now words) ⌝ }
-    ensures { λ r. ⌜ Held r (now (line .exit)) (now (words .exit)) ⌝ }
-    ensures { λ r. ⌜ Listed (stateOf s (now (line .entry)) (now (words .entry))) (stateOf r (now (line .exit)) (now (words .exit))) ⌝ }
+    requires { ⌜ Listed (stateOf s (now line) (now words)) ⌝ }
+    ensures { λ r. ⌜ Held (r .reader) (now (line .exit)) (now (words .exit)) ⌝ }
+    ensures { λ r. ⌜ (r .whole ≡ true → Listed (stateOf (r .reader) (now (line .exit)) (now (words .exit)))) ⌝ }
 {
     let mut r = s;
     let mut turns = u64::MAX;
@@ -68,26 +82,56 @@ fn take_parts(
         turns -= 1;
         let t = take_part(fd, path, text, r, line, words);
         r = t.reader;
+        if !t.whole {
+            return ListTurn {
+                whole: false,
+                reader: r,
+            };
+        }
         if !t.more {
-            return r;
+            return ListTurn {
+                whole: true,
+                reader: r,
+            };
         }
     }
-    r
+    ListTurn {
+        whole: false,
+        reader: r,
+    }
 }
 
-// Stores the steps of the run file at path in the first words, and answers how many they are. A file that is missing has none.
-pub fn take_list(path: &[u8], text: &mut [u8], line: &mut [u8], words: &mut [u32]) -> usize
+// What came of a run file: whole where all of its lines are stored, and how many they are.
+pub struct Listing {
+    pub whole: bool,
+    pub count: usize,
+}
+
+// Stores the steps of the run file at path in the first words. A file that is missing, cannot be read, or has lines past the last that is read, is not
+// whole, and that is said.
+pub fn take_list(path: &[u8], text: &mut [u8], line: &mut [u8], words: &mut [u32]) -> Listing
     requires { ⌜ (length (now line) ≡ 81) × (length (now words) ≡ 599994) ⌝ }
-    ensures { λ r. ⌜ Stored r (now (words .exit)) ⌝ }
+    ensures { λ r. ⌜ (r .whole ≡ true → Stored (r .count) (now (words .exit))) ⌝ }
 {
     let start = ListReader { fill: 0, number: 0 };
-    let fd = os::open_read(path);
+    let fd = open(path, b" is missing; no verdict\n", b"; no verdict");
     if fd < 0 {
-        say_unopened(path);
-        return 0;
+        return Listing {
+            whole: false,
+            count: 0,
+        };
     }
     let read = take_parts(fd, path, text, start, line, words);
     libc::close(fd);
-    let r = listfile::finish(read, line, words);
-    r.number
+    if !read.whole {
+        return Listing {
+            whole: false,
+            count: 0,
+        };
+    }
+    let r = listfile::finish(read.reader, line, words);
+    Listing {
+        whole: true,
+        count: r.number,
+    }
 }

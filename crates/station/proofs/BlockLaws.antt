@@ -16,10 +16,11 @@ use lib.Bits.{or-lt}
 use lib.Dec.{ltb}
 use Rattle.word24.specs.Word.{clearBits, setBits}
 use Rattle.word24.proofs.BitLaws.{clear-le}
-use Rattle.station.specs.Block.{kindOf, countOf, statusOf, maskOf, headOf, fillOf, spareOf, registerOf, withStatus, withMask, withHead, withFill, withRegister, setStatusBit, setStatusBitWhen, clearStatusBit, zeroedOf, sourcesOf, lastHeadOf, mostFillOf, isUsed, FitBlock}
+use Rattle.station.specs.Block.{kindOf, countOf, statusOf, maskOf, headOf, fillOf, fixedOf, registerOf, withStatus, withMask, withHead, withFill, withRegister, setStatusBit, setStatusBitWhen, clearStatusBit, zeroedOf, sourcesOf, isUsed, FitBlock}
 use Rattle.station.specs.Kept.{SameModule, Kept}
-use Rattle.station.proofs.TestLaws.{by-cases, alike}
-use Rattle.station.proofs.KindTable.{head-few, fill-few}
+use Rattle.kinds.specs.Table.{lastHeadOf, mostFillOf}
+use Rattle.kinds.proofs.TestLaws.{by-cases, alike}
+use Rattle.kinds.proofs.TableLaws.{head-few, fill-few}
 
 -- ---- the same module
 pub sources-same : {b c : List ℕ} → SameModule b c → sourcesOf c ≡ sourcesOf b
@@ -27,7 +28,7 @@ unfolding sourcesOf
 sources-same s = rw (s .kind, s .count)
 
 pub kept-here : {b : List ℕ} → FitBlock b → Kept b b
-kept-here f = record { fit = f; same = record { kind = refl; count = refl; spare = λ i h. refl } }
+kept-here f = record { fit = f; same = record { kind = refl; count = refl; fixed = λ i h. refl } }
 
 pub kept-then : {b c d : List ℕ} → Kept b c → Kept c d → Kept b d
 kept-then p q = record {
@@ -35,7 +36,7 @@ kept-then p q = record {
   same = record {
     kind = q .same .kind ∙ p .same .kind;
     count = q .same .count ∙ p .same .count;
-    spare = λ i h. q .same .spare i h ∙ p .same .spare i h;
+    fixed = λ i h. q .same .fixed i h ∙ p .same .fixed i h;
   };
 }
 
@@ -57,7 +58,7 @@ kept-by {b} {c} f same long status mask head fill register unused =
         mask = rw s mask;
         lastHead = rw k head;
         mostFill = rw k fill;
-        spare = λ i h. same .spare i h ∙ f .spare i h;
+        spare = λ i h. same .fixed i h ∙ f .spare i h;
         register = register;
         unused = unused;
         sources = rw s (f .sources);
@@ -80,7 +81,7 @@ same-set : (b : List ℕ) (k v : ℕ) → 2 ≤ k → ((i : ℕ) → i < 10 → 
 same-set b k v lo apart = record {
   kind = getD-set-other b k 0 v 0 (λ e. omega arith);
   count = getD-set-other b k 1 v 0 (λ e. omega arith);
-  spare = λ i h. getD-set-other b k (6 + i) v 0 (apart i h);
+  fixed = λ i h. getD-set-other b k (6 + i) v 0 (apart i h);
 }
 
 -- which places are used hangs on the module, the head and the fill
@@ -186,7 +187,7 @@ module _ (b : List ℕ) (p v head fill : ℕ) (f : FitBlock b) (k : kindOf b ≡
   moved-same = record {
     kind = moved-other 0 (λ e. omega arith) (λ e. omega arith) (λ e. omega arith);
     count = moved-other 1 (λ e. omega arith) (λ e. omega arith) (λ e. omega arith);
-    spare = λ i h. moved-other (6 + i) (λ e. omega arith) (λ e. omega arith) (λ e. omega arith);
+    fixed = λ i h. moved-other (6 + i) (λ e. omega arith) (λ e. omega arith) (λ e. omega arith);
   }
 
   -- what is known of a place that is not used afterwards
@@ -249,14 +250,14 @@ header-zeroed (_ ∷ _ ∷ _ ∷ _ ∷ _ ∷ []) status mask l = absurd (omega a
 header-zeroed (x₀ ∷ x₁ ∷ x₂ ∷ x₃ ∷ x₄ ∷ x₅ ∷ xs) status mask l = refl
 
 module _ (b : List ℕ) (status mask : ℕ) (l : length b ≡ 32) where
-  spare-long : length (take 10 (drop 6 b)) ≡ 10
-  spare-long = length-take-le 10 (drop 6 b) (simp length-drop (omega arith))
+  fixed-long : length (take 10 (drop 6 b)) ≡ 10
+  fixed-long = length-take-le 10 (drop 6 b) (simp length-drop (omega arith))
 
-  pub zeroed-spare : (i : ℕ) → i < 10 → spareOf (zeroedOf b status mask) i ≡ spareOf b i
+  pub zeroed-fixed : (i : ℕ) → i < 10 → fixedOf (zeroedOf b status mask) i ≡ fixedOf b i
   unfolding zeroedOf
-  zeroed-spare i h =
+  zeroed-fixed i h =
       getD-append-add (kindOf b ∷ countOf b ∷ status ∷ mask ∷ 0 ∷ 0 ∷ []) (take 10 (drop 6 b) ++ replicate 16 0) i 0
-      ∙ List·getD-append (take 10 (drop 6 b)) (replicate 16 0) 0 i (rw spare-long h)
+      ∙ List·getD-append (take 10 (drop 6 b)) (replicate 16 0) 0 i (rw fixed-long h)
       ∙ getD-take 10 (drop 6 b) i 0 h
       ∙ getD-drop 6 b i 0
 
@@ -266,18 +267,18 @@ module _ (b : List ℕ) (status mask : ℕ) (l : length b ≡ 32) where
       let e : 16 + i ≡ 6 + (10 + i) = omega arith in
       rw e (
       getD-append-add (kindOf b ∷ countOf b ∷ status ∷ mask ∷ 0 ∷ 0 ∷ []) (take 10 (drop 6 b) ++ replicate 16 0) (10 + i) 0
-      ∙ subst (λ (n : ℕ). getD (take 10 (drop 6 b) ++ replicate 16 0) (n + i) 0 ≡ 0) spare-long
+      ∙ subst (λ (n : ℕ). getD (take 10 (drop 6 b) ++ replicate 16 0) (n + i) 0 ≡ 0) fixed-long
       (getD-append-add (take 10 (drop 6 b)) (replicate 16 0) i 0 ∙ getD-replicate 16 i 0 0 h)
       )
 
   pub zeroed-long : length (zeroedOf b status mask) ≡ 32
   unfolding zeroedOf
-  zeroed-long = rw (length-append (take 10 (drop 6 b)) (replicate 16 0), spare-long)
+  zeroed-long = rw (length-append (take 10 (drop 6 b)) (replicate 16 0), fixed-long)
 
   -- the words before them are as stored
   pub zeroed-same : SameModule b (zeroedOf b status mask)
   unfolding zeroedOf
-  zeroed-same = record { kind = refl; count = refl; spare = zeroed-spare }
+  zeroed-same = record { kind = refl; count = refl; fixed = zeroed-fixed }
 
   pub zeroed-lam : (statusOf (zeroedOf b status mask) ≡ status) × (maskOf (zeroedOf b status mask) ≡ mask)
   unfolding zeroedOf

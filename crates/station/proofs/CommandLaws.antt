@@ -11,7 +11,7 @@ use lib.Bits.{or-lt}
 use lib.Dec.{ltb, eqb}
 use Rattle.word24.specs.Word.{sumOf, carryOf, setBits, clearBits, bitOf}
 use Rattle.word24.proofs.BitLaws.{low-bits-lt}
-use Rattle.station.specs.Cases.{isOneOf, Case, caseOf}
+use Rattle.kinds.specs.Cases.{isOneOf, Case, caseOf}
 use Rattle.station.specs.Block.{kindOf, countOf, statusOf, maskOf, headOf, fillOf, registerOf, requestOf, withStatus, withMask, withRegister, clearStatusBit, setMaskBit, clearMaskBit, isBuffer, sourcesOf, zeroedOf, FitBlock}
 use Rattle.station.specs.Outcome.{Outcome, accept, notAccepted, done, gives, tells}
 use Rattle.station.specs.Buffer.{oldestOf, unlessEmpty, shortenedOf, withoutOldest, bufferReadOf, bufferReadComplementOf, bufferReadAndClearOf, bufferClearOf}
@@ -20,7 +20,7 @@ use Rattle.station.specs.Lam.{lam, testLamOf, testStatusOf, clearLamOf, 
 use Rattle.station.specs.Group2.{group2, lowOf, readGroup2Of, clearGroup2Of, overwriteGroup2Of, selectiveSetGroup2Of, selectiveClearGroup2Of}
 use Rattle.station.specs.Command.{functionsOf, commandOf}
 use Rattle.station.specs.Kept.{Kept}
-use Rattle.station.proofs.TestLaws.{both-fst, both-snd, by-cases, one-of-only, one-of-apart, EachCase, case-all, Rest, case-else}
+use Rattle.kinds.proofs.TestLaws.{both-fst, both-snd, by-cases, one-of-only, one-of-apart, EachCase, case-all, Rest, case-else}
 use Rattle.station.proofs.KindTable.{sources-at}
 use Rattle.station.proofs.BlockLaws.{sources-same, kept-here, kept-then, kept-status, kept-mask, bit-set-below, bits-clear-below, kept-status-bit-when, kept-register, moved, kept-moved, kept-zeroed}
 

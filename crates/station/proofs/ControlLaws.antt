@@ -8,13 +8,16 @@ use native.Mathlib.Numerals.{add-one}
 use lib.ListN.{getD, replicate, getD-replicate}
 use lib.Seq.{getD-append-add}
 use lib.Pow.{pow-pos}
-use Rattle.station.specs.Block.{countOf, sourcesOf, leastOf, mostOf, FitBlock}
+use Rattle.kinds.specs.Table.{FitModule}
+use Rattle.kinds.specs.declared.Module.{Module}
+use Rattle.kinds.proofs.TableLaws.{table-facts}
+use Rattle.station.specs.Block.{countOf, sourcesOf, FitBlock}
 use Rattle.station.specs.Outcome.{Outcome}
 use Rattle.station.specs.Command.{commandOf}
 use Rattle.station.specs.Control.{initializedOf, clearedBelow, clearedOf, moduleOf}
 use Rattle.station.specs.Kept.{Kept}
 use Rattle.station.specs.declared.Reply.{Reply}
-use Rattle.station.proofs.KindTable.{sources-few, count-few}
+use Rattle.station.proofs.KindTable.{block-sources-few, count-few}
 use Rattle.station.proofs.BlockLaws.{kept-here, kept-then, kept-zeroed}
 use Rattle.station.proofs.CommandLaws.{command-kept}
 
@@ -44,25 +47,26 @@ cleared-more b₀ b c a r e h =
     rw (add-one a) (sym (ap (λ (o : Outcome). o .block) h) ∙ ap (λ (x : List ℕ). commandOf x a 9 0 .block) e)
 
 -- a module just put in
-module _ (kind r : ℕ) where
-  module-zero : (j : ℕ) → j < 30 → getD (moduleOf kind r) (2 + j) 0 ≡ 0
-  module-zero j h = getD-append-add (kind ∷ r ∷ []) (replicate 30 0) j 0 ∙ getD-replicate 30 j 0 0 h
+module _ (p : Module) where
+  module-zero : (j : ℕ) → j < 30 → getD (moduleOf p) (2 + j) 0 ≡ 0
+  module-zero j h = getD-append-add (p .kind ∷ p .r ∷ []) (replicate 30 0) j 0 ∙ getD-replicate 30 j 0 0 h
 
-  pub module-fit : kind < 6 → leastOf kind ≤ r → r ≤ mostOf kind → FitBlock (moduleOf kind r)
-  module-fit k lo hi =
+  pub module-fit : FitModule p → FitBlock (moduleOf p)
+  module-fit f =
+      let t = table-facts (p .kind) (p .r) (f .table) in
       record {
         long = refl;
-        kind = k;
-        least = lo;
-        most = hi;
-        status = pow-pos (sourcesOf (moduleOf kind r));
-        mask = pow-pos (sourcesOf (moduleOf kind r));
+        kind = t .0;
+        least = t .1;
+        most = t .2;
+        status = pow-pos (sourcesOf (moduleOf p));
+        mask = pow-pos (sourcesOf (moduleOf p));
         lastHead = omega arith;
         mostFill = omega arith;
         spare = λ i h. let e : 6 + i ≡ 2 + (4 + i) = omega arith in rw e (module-zero (4 + i) (omega arith));
         register = λ i h. let e : 16 + i ≡ 2 + (14 + i) = omega arith in rw (e, module-zero (14 + i) (omega arith)) (omega arith);
         unused = λ i h u. let e : 16 + i ≡ 2 + (14 + i) = omega arith in rw e (module-zero (14 + i) (omega arith));
-        sources = sources-few (moduleOf kind r) hi;
+        sources = block-sources-few (moduleOf p) (t .2);
         head = omega arith;
         fill = omega arith;
       }

@@ -9,10 +9,12 @@ use native.Mathlib.Omega.{arith}
 use borrow.Author.Tests.{ltb-true, leb-true, eqb-true, lt-ltb, le-leb, lt-leb, eq-eqb}
 use lib.ListN.{length, getD}
 use lib.Dec.{leb, ltb, eqb}
-use Rattle.station.specs.Cases.{allOf, every}
-use Rattle.station.specs.Block.{kindOf, countOf, statusOf, maskOf, headOf, fillOf, spareOf, registerOf, sourcesOf, isUsed, leastOf, mostOf, lastHeadOf, mostFillOf, headerTests, isFitHeader, isFitSpare, isFitRegister, fitTests, isFitBlock, FitBlock}
-use Rattle.station.proofs.KindTable.{sources-few, head-few, fill-few}
-use Rattle.station.proofs.TestLaws.{both-fst, both-snd, every-at, every-intro, by-cases, both-true, all-true, all-intro, decided}
+use Rattle.kinds.specs.Cases.{allOf, every}
+use Rattle.kinds.specs.Table.{leastOf, mostOf, lastHeadOf, mostFillOf, inTable}
+use Rattle.kinds.proofs.TableLaws.{table-facts, facts-table, head-few, fill-few}
+use Rattle.station.specs.Block.{kindOf, countOf, statusOf, maskOf, headOf, fillOf, spareOf, registerOf, sourcesOf, isUsed, headerTests, isFitHeader, isFitSpare, isFitRegister, fitTests, isFitBlock, FitBlock}
+use Rattle.station.proofs.KindTable.{block-sources-few}
+use Rattle.kinds.proofs.TestLaws.{both-fst, both-snd, every-at, every-intro, by-cases, both-true, all-true, all-intro, decided}
 
 -- what the header's test says
 pub record Header (b : List ℕ) : Type 0 where
@@ -28,38 +30,39 @@ pub header-facts : (b : List ℕ) → isFitHeader b ≡ true → Header b
 unfolding isFitHeader headerTests
 header-facts b h =
     let p = all-true (headerTests b) h in
+    let t = table-facts (kindOf b) (countOf b) (p .0) in
     record {
-      kind = ltb-true _ _ (p .0);
-      least = leb-true _ _ (p .1 .0);
-      most = leb-true _ _ (p .1 .1 .0);
-      status = ltb-true _ _ (p .1 .1 .1 .0);
-      mask = ltb-true _ _ (p .1 .1 .1 .1 .0);
-      lastHead = leb-true _ _ (p .1 .1 .1 .1 .1 .0);
-      mostFill = leb-true _ _ (p .1 .1 .1 .1 .1 .1 .0);
+      kind = t .0;
+      least = t .1;
+      most = t .2;
+      status = ltb-true _ _ (p .1 .0);
+      mask = ltb-true _ _ (p .1 .1 .0);
+      lastHead = leb-true _ _ (p .1 .1 .1 .0);
+      mostFill = leb-true _ _ (p .1 .1 .1 .1 .0);
     }
 
 pub header-head : (b : List ℕ) → isFitHeader b ≡ true → headOf b < 16
 header-head b h = let f = header-facts b h in omega (arith, head-few (kindOf b))
 
 -- the tests one after the other: the first that fails decides, and where all but the last hold, the last
-module _ (b : List ℕ) (kind : kindOf b < 6) (least : leastOf (kindOf b) ≤ countOf b) (most : countOf b ≤ mostOf (kindOf b)) where
+module _ (b : List ℕ) (table : inTable (kindOf b) (countOf b) ≡ true) where
   pub header-no-status : ltb (statusOf b) (2 ^ sourcesOf b) ≡ false → isFitHeader b ≡ false
   unfolding isFitHeader headerTests
-  header-no-status h = simp (lt-ltb _ _ kind, le-leb _ _ least, le-leb _ _ most, h)
+  header-no-status h = simp (table, h)
 
   module _ (status : ltb (statusOf b) (2 ^ sourcesOf b) ≡ true) where
     pub header-no-mask : ltb (maskOf b) (2 ^ sourcesOf b) ≡ false → isFitHeader b ≡ false
     unfolding isFitHeader headerTests
-    header-no-mask h = simp (lt-ltb _ _ kind, le-leb _ _ least, le-leb _ _ most, status, h)
+    header-no-mask h = simp (table, status, h)
 
     module _ (mask : ltb (maskOf b) (2 ^ sourcesOf b) ≡ true) where
       pub header-no-head : lastHeadOf (kindOf b) < headOf b → isFitHeader b ≡ false
       unfolding isFitHeader headerTests
-      header-no-head h = simp (lt-ltb _ _ kind, le-leb _ _ least, le-leb _ _ most, status, mask, lt-leb _ _ h)
+      header-no-head h = simp (table, status, mask, lt-leb _ _ h)
 
       pub header-last : headOf b ≤ lastHeadOf (kindOf b) → isFitHeader b ≡ leb (fillOf b) (mostFillOf (kindOf b))
       unfolding isFitHeader headerTests
-      header-last h = simp (lt-ltb _ _ kind, le-leb _ _ least, le-leb _ _ most, status, mask, le-leb _ _ h, both-true)
+      header-last h = simp (table, status, mask, le-leb _ _ h, both-true)
 
 -- the facts behind the test of a place
 register-small : (b : List ℕ) (i : ℕ) → isFitRegister b i ≡ true → registerOf b i < 2 ^ 24
@@ -92,7 +95,7 @@ fit-facts b h =
       spare = λ i l. spare-zero b i (every-at 10 (isFitSpare b) i (p .1 .1 .0) l);
       register = λ i l. register-small b i (every-at 16 (isFitRegister b) i (p .1 .1 .1 .0) l);
       unused = λ i l e. register-unused b i (every-at 16 (isFitRegister b) i (p .1 .1 .1 .0) l) e;
-      sources = sources-few b (f .most);
+      sources = block-sources-few b (f .most);
       head = omega (arith, head-few (kindOf b));
       fill = omega (arith, fill-few (kindOf b));
     }
@@ -111,7 +114,7 @@ facts-fit b f =
       eq-eqb _ _ (f .long),
       (
         all-intro (headerTests b)
-            (lt-ltb _ _ (f .kind), (le-leb _ _ (f .least), (le-leb _ _ (f .most), (lt-ltb _ _ (f .status), (lt-ltb _ _ (f .mask), (le-leb _ _ (f .lastHead), (le-leb _ _ (f .mostFill), tt))))))),
+            (facts-table _ _ (f .kind) (f .least) (f .most), (lt-ltb _ _ (f .status), (lt-ltb _ _ (f .mask), (le-leb _ _ (f .lastHead), (le-leb _ _ (f .mostFill), tt))))),
         (
           every-intro 10 (isFitSpare b) (λ i l. eq-eqb _ _ (f .spare i l)),
           (every-intro 16 (isFitRegister b) (λ i l. register-fits b i (f .register i l) (f .unused i l)), tt),

@@ -10,11 +10,11 @@ use lib.Seq.{set-getD, getD-set-other}
 use lib.Dec.{ltb, eqb}
 use Rattle.word24.specs.Counter.{mod24, exactSum, raisesAt}
 use Rattle.word24.proofs.CounterLaws.{mod24-lt}
-use Rattle.station.specs.Cases.{caseOf}
+use Rattle.kinds.specs.Cases.{caseOf}
 use Rattle.station.specs.Block.{kindOf, countOf, headOf, fillOf, registerOf, withHead, withFill, withRegister, setStatusBit, sourcesOf, FitBlock}
 use Rattle.station.specs.Front.{Event, taken, notTaken, heldOf, countedOf, storedOf, kindEventsOf, frontOf}
 use Rattle.station.specs.Kept.{Kept}
-use Rattle.station.proofs.TestLaws.{by-cases, EachCase, case-all}
+use Rattle.kinds.proofs.TestLaws.{by-cases, EachCase, case-all}
 use Rattle.station.proofs.KindTable.{sources-at}
 use Rattle.station.proofs.BlockLaws.{sources-same, kept-here, kept-then, kept-status-bit, kept-status-bit-when, kept-register, moved, kept-moved}
 use Rattle.station.proofs.CommandLaws.{kept-added}

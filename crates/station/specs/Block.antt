@@ -1,4 +1,4 @@
--- The block of one station (01, 'Crate memory'): its 32 words, the table of kinds, and when a block is fit.
+-- The block of one station (01, 'Crate memory'): its 32 words, and when a block is fit.
 use Prim.Native.Nat.{ℕ, _+_, _-_, _<_, _≤_, _^_, _%_}
 use mathlib.Core.Path.{_≡_}
 use mathlib.Core.List.{List, [], _∷_, _++_}
@@ -7,7 +7,8 @@ use lib.ListN.{length, getD, set, take, drop, replicate}
 use lib.Dec.{leb, ltb, eqb}
 use lib.Bits.{bitAnd}
 use Rattle.word24.specs.Word.{setBits, clearBits}
-use Rattle.station.specs.Cases.{allOf, every}
+use Rattle.kinds.specs.Cases.{allOf, every}
+use Rattle.kinds.specs.Table.{leastOf, mostOf, sourcesWith, lastHeadOf, mostFillOf, inTable}
 
 -- ---- the words of a block
 -- word 0: the kind
@@ -34,7 +35,11 @@ headOf b = getD b 4 0
 abbrev pub fillOf : List ℕ → ℕ
 fillOf b = getD b 5 0
 
--- words 6 to 15, which stay zero
+-- words 6 to 15, which no step changes
+abbrev pub fixedOf : List ℕ → ℕ → ℕ
+fixedOf b i = getD b (6 + i) 0
+
+-- those of them that must be zero: all ten
 abbrev pub spareOf : List ℕ → ℕ → ℕ
 spareOf b i = getD b (6 + i) 0
 
@@ -86,26 +91,10 @@ clearMaskBit b a = withMask b (clearBits (maskOf b) (2 ^ a))
 unfoldable pub zeroedOf : List ℕ → (status mask : ℕ) → List ℕ
 zeroedOf b status mask = kindOf b ∷ countOf b ∷ status ∷ mask ∷ 0 ∷ 0 ∷ take 10 (drop 6 b) ++ replicate 16 0
 
--- ---- the table of kinds: 0 empty, 1 scaler, 2 output register, 3 input register, 4 buffer memory, 5 up-down counter
--- the least r of each kind
-abbrev pub leastOf : ℕ → ℕ
-leastOf kind = getD (0 ∷ 1 ∷ 1 ∷ 1 ∷ 1 ∷ 1 ∷ []) kind 0
-
--- the most r of each kind
-abbrev pub mostOf : ℕ → ℕ
-mostOf kind = getD (0 ∷ 16 ∷ 16 ∷ 16 ∷ 1 ∷ 16 ∷ []) kind 0
-
--- the sources s of each kind
+-- ---- what the table of kinds (kinds/specs/Table) says of a block
+-- the sources s of its module
 unfoldable pub sourcesOf : List ℕ → ℕ
-sourcesOf b = getD (0 ∷ countOf b ∷ 0 ∷ countOf b ∷ 2 ∷ countOf b ∷ []) (kindOf b) 0
-
--- the last head of each kind: 0 except in kind 4
-abbrev pub lastHeadOf : ℕ → ℕ
-lastHeadOf kind = getD (0 ∷ 0 ∷ 0 ∷ 0 ∷ 15 ∷ 0 ∷ []) kind 0
-
--- the most fill of each kind: 0 except in kind 4
-abbrev pub mostFillOf : ℕ → ℕ
-mostFillOf kind = getD (0 ∷ 0 ∷ 0 ∷ 0 ∷ 16 ∷ 0 ∷ []) kind 0
+sourcesOf b = sourcesWith (kindOf b) (countOf b)
 
 abbrev pub isBuffer : List ℕ → Bool
 isBuffer b = eqb (kindOf b) 4
@@ -118,9 +107,7 @@ isUsed b i = cond (isBuffer b) (ltb ((i + 16 - headOf b) % 16) (fillOf b)) (ltb 
 -- kind and r are as in the table, status and mask are below 2^s, head and fill are 0 except in kind 4
 unfoldable pub headerTests : List ℕ → List Bool
 headerTests b =
-    ltb (kindOf b) 6
-    ∷ leb (leastOf (kindOf b)) (countOf b)
-    ∷ leb (countOf b) (mostOf (kindOf b))
+    inTable (kindOf b) (countOf b)
     ∷ ltb (statusOf b) (2 ^ sourcesOf b)
     ∷ ltb (maskOf b) (2 ^ sourcesOf b)
     ∷ leb (headOf b) (lastHeadOf (kindOf b))

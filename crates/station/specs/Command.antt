@@ -1,7 +1,7 @@
 -- The 32 functions: what a command with subaddress A, function F and write word W does at a station.
 use Prim.Native.Nat.{ℕ}
 use mathlib.Core.List.{List, [], _∷_}
-use Rattle.station.specs.Cases.{Case, _does_, caseOf}
+use Rattle.kinds.specs.Cases.{Case, _does_, caseOf}
 use Rattle.station.specs.Outcome.{Outcome, notAccepted}
 use Rattle.station.specs.Group1.{readOf, readAndClearOf, readComplementOf, clearOf, overwriteOf, selectiveSetOf, selectiveClearOf, executeOf}
 use Rattle.station.specs.Lam.{testLamOf, clearLamOf, disableOf, enableOf, testStatusOf}

@@ -2,6 +2,7 @@
 use Prim.Native.Nat.{ℕ, zero, suc}
 use mathlib.Core.List.{List, [], _∷_}
 use lib.ListN.{replicate}
+use Rattle.kinds.specs.declared.Module.{Module}
 use Rattle.station.specs.Block.{countOf, zeroedOf}
 use Rattle.station.specs.Command.{commandOf}
 
@@ -18,6 +19,6 @@ clearedBelow (suc k) b = commandOf (clearedBelow k b) k 9 0 .block
 abbrev pub clearedOf : List ℕ → List ℕ
 clearedOf b = clearedBelow (countOf b) b
 
--- a module with r registers, all else 0; an empty station is kind 0 with r 0
-abbrev pub moduleOf : (kind r : ℕ) → List ℕ
-moduleOf kind r = kind ∷ r ∷ replicate 30 0
+-- the block of a module just put in: its kind and its r, all else 0; an empty station is kind 0 with r 0
+abbrev pub moduleOf : Module → List ℕ
+moduleOf p = p .kind ∷ p .r ∷ replicate 30 0

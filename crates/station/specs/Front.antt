@@ -4,7 +4,7 @@ use mathlib.Core.List.{List, [], _∷_}
 use mathlib.Core.Bool.{Bool, cond}
 use lib.Dec.{ltb, eqb}
 use Rattle.word24.specs.Counter.{exactSum, mod24, raisesAt}
-use Rattle.station.specs.Cases.{Case, _does_, caseOf}
+use Rattle.kinds.specs.Cases.{Case, _does_, caseOf}
 use Rattle.station.specs.Block.{kindOf, countOf, headOf, fillOf, registerOf, withFill, withRegister, setStatusBit, setStatusBitWhen}
 use Rattle.station.specs.Group1.{addedOf}
 

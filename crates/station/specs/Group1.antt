@@ -4,7 +4,7 @@ use mathlib.Core.List.{List, [], _∷_}
 use mathlib.Core.Bool.{Bool, cond, _&&_}
 use lib.Dec.{ltb}
 use Rattle.word24.specs.Word.{sumOf, carryOf, complementOf, setBits, clearBits}
-use Rattle.station.specs.Cases.{isOneOf}
+use Rattle.kinds.specs.Cases.{isOneOf}
 use Rattle.station.specs.Block.{kindOf, countOf, registerOf, withRegister, setStatusBitWhen, isBuffer}
 use Rattle.station.specs.Outcome.{Outcome, accept, done, gives}
 use Rattle.station.specs.Buffer.{bufferReadOf, bufferReadAndClearOf, bufferReadComplementOf, bufferClearOf}

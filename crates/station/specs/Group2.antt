@@ -3,7 +3,7 @@ use Prim.Native.Nat.{ℕ}
 use mathlib.Core.List.{List, [], _∷_}
 use lib.Dec.{ltb}
 use Rattle.word24.specs.Word.{setBits, clearBits, lowBits}
-use Rattle.station.specs.Cases.{Case, _does_, caseOf}
+use Rattle.kinds.specs.Cases.{Case, _does_, caseOf}
 use Rattle.station.specs.Block.{statusOf, maskOf, requestOf, sourcesOf, withStatus, withMask}
 use Rattle.station.specs.Outcome.{Outcome, accept, notAccepted, done, gives}
 

@@ -2,13 +2,13 @@
 use Prim.Native.Nat.{ℕ, _<_}
 use mathlib.Core.Path.{_≡_}
 use mathlib.Core.List.{List}
-use Rattle.station.specs.Block.{kindOf, countOf, spareOf, FitBlock}
+use Rattle.station.specs.Block.{kindOf, countOf, fixedOf, FitBlock}
 
 -- the blocks b and c are of the same module
 pub record SameModule (b c : List ℕ) : Type 0 where
   pub kind : kindOf c ≡ kindOf b
   pub count : countOf c ≡ countOf b
-  pub spare : (i : ℕ) → i < 10 → spareOf c i ≡ spareOf b i
+  pub fixed : (i : ℕ) → i < 10 → fixedOf c i ≡ fixedOf b i
 
 -- from the block b to the fit block c of the same module
 pub record Kept (b c : List ℕ) : Type 0 where

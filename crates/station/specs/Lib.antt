@@ -1,4 +1,3 @@
-pub mod Cases
 pub mod Block
 pub mod Outcome
 pub mod Buffer
@@ -9,3 +8,5 @@ pub mod Command
 pub mod Front
 pub mod Control
 pub mod Kept
+pub mod Answered
+pub mod Held

@@ -22,28 +22,12 @@ pub const SPARE: usize = 6;
 
 pub const REGISTERS: usize = 16;
 
-// The kinds of module.
-pub const SCALER: u32 = 1;
-
-pub const OUTPUT_REGISTER: u32 = 2;
-
-pub const INPUT_REGISTER: u32 = 3;
-
-pub const BUFFER_MEMORY: u32 = 4;
-
-pub const UP_DOWN_COUNTER: u32 = 5;
-
 // How many LAM sources the module has.
 pub fn sources(b: &[u32]) -> u32
     requires { ⌜ length (now b) ≡ 32 ⌝ }
     ensures { λ r. ⌜ r ≡ sourcesOf (now (b .entry)) ⌝ }
 {
-    let kind = b[KIND];
-    match kind {
-        SCALER | INPUT_REGISTER | UP_DOWN_COUNTER => b[COUNT],
-        BUFFER_MEMORY => 2,
-        _ => 0,
-    }
+    kinds::sources(b[KIND], b[COUNT])
 }
 
 // Sets status bit a.

@@ -3,3 +3,4 @@ pub mod Lengths
 pub mod Modules
 pub mod Numbers
 pub mod Touches
+pub mod ReachedLaws

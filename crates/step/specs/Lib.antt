@@ -2,3 +2,4 @@ pub mod Modules
 pub mod Refusals
 pub mod Touches
 pub mod Verdict
+pub mod Reached

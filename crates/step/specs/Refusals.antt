@@ -19,6 +19,10 @@ refusalNumber UnfitCrate = 9
 refusalNumber BadModule = 10
 refusalNumber OutOfOrder = 11
 
+-- how many refusals there are: their numbers are 1 to `refusals`
+abbrev pub refusals : ℕ
+refusals = 11
+
 -- the number of a verdict: 0 where nothing is sent back
 abbrev pub verdictNumber : Verdict → ℕ
 verdictNumber Fine = 0

@@ -2,8 +2,10 @@
 // the verdict on what stands to the right of the field.
 use crate::Refusal;
 use crate::Verdict;
+use kinds::Module;
+use kinds::in_table;
 ghost use mathlib.Core.Path.{_≡_};
-ghost use Rattle.step.specs.Modules.{mostRegisters, fitsKind, orderThen, moduleThen};
+ghost use Rattle.step.specs.Modules.{fitsKind, orderThen, moduleThen};
 ghost use Rattle.step.specs.Verdict.{within, transfer, unless, stationThen, subaddressThen, functionThen, transferThen, wordThen, inhibitThen, rangeThen, limitThen, triesThen, lentThen};
 
 // The edges of the fields.
@@ -18,12 +20,6 @@ const WIDEST_WORD: u32 = 16777215;
 const MOST_WORDS: u32 = 512;
 
 const MOST_TRIES: u32 = 4096;
-
-const LAST_KIND: u32 = 5;
-
-const BUFFER_MEMORY: u32 = 4;
-
-const MOST_REGISTERS: u32 = 16;
 
 // x is low to high, both included.
 fn within(low: u32, x: u32, high: u32) -> bool
@@ -45,22 +41,11 @@ fn is_transfer(f: u32) -> bool
     f == 3
 }
 
-// The most registers of a kind.
-fn most_registers(kind: u32) -> u32
-    ensures { λ r. ⌜ r ≡ mostRegisters kind ⌝ }
+// A kind of module (0 is an empty station), and r registers as the table of kinds says.
+fn fits_kind(held: Module) -> bool
+    ensures { λ b. ⌜ b ≡ fitsKind held ⌝ }
 {
-    if kind == BUFFER_MEMORY {
-        1
-    } else {
-        MOST_REGISTERS
-    }
-}
-
-// A kind of the table of kinds, and r registers as that kind may have.
-fn fits_kind(kind: u32, r: u32) -> bool
-    ensures { λ b. ⌜ b ≡ fitsKind kind r ⌝ }
-{
-    within(1, kind, LAST_KIND) && within(1, r, most_registers(kind))
+    1 <= held.kind && in_table(held.kind, held.r)
 }
 
 // What follows, unless the test failed.
@@ -136,8 +121,8 @@ pub fn order_then(previous: u32, n: u32, rest: Verdict) -> Verdict
     unless(previous < n, Refusal::OutOfOrder, rest)
 }
 
-pub fn module_then(kind: u32, r: u32, rest: Verdict) -> Verdict
-    ensures { λ v. ⌜ v ≡ moduleThen kind r rest ⌝ }
+pub fn module_then(held: Module, rest: Verdict) -> Verdict
+    ensures { λ v. ⌜ v ≡ moduleThen held rest ⌝ }
 {
-    unless(fits_kind(kind, r), Refusal::BadModule, rest)
+    unless(fits_kind(held), Refusal::BadModule, rest)
 }

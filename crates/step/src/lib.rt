@@ -1,4 +1,4 @@
-// A step of a run, the module of a crate line, and whether they may be done: fields from left to right, then the buffer.
+// A step of a run, the reading of a crate line, and whether they may be done: fields from left to right, then the buffer.
 // The types come first, then the judging; each row of the table of refusals is a function of `fields`.
 mod fields;
 
@@ -14,12 +14,13 @@ use fields::subaddress_then;
 use fields::transfer_then;
 use fields::tries_then;
 use fields::word_then;
+use kinds::Module;
 ghost use mathlib.Core.Path.{_≡_};
 ghost use Rattle.step.specs.Modules.{moduleVerdict};
 ghost use Rattle.step.specs.Refusals.{refusalNumber};
 ghost use Rattle.step.specs.Verdict.{commandVerdict, frontVerdict, inhibitVerdict, scanVerdict, repeatVerdict, stopVerdict, stepVerdict};
 
-// What is sent back, in the order of the numbers 1 to 11.
+// What is sent back, in the order of the numbers, from 1 on.
 pub enum Refusal {
     Garbled,
     NoSuchStation,
@@ -81,13 +82,6 @@ pub enum Reading {
     Bad(Refusal),
 }
 
-// The module of a crate line: its station, its kind and its register count.
-pub struct Module {
-    pub n: u32,
-    pub kind: u32,
-    pub r: u32,
-}
-
 // The reading of a crate line.
 pub enum ModuleLine {
     Holds(Module),
@@ -99,6 +93,9 @@ pub enum Verdict {
     Fine,
     Refuse(Refusal),
 }
+
+// How many refusals there are. Their numbers are 1 to REFUSALS.
+pub const REFUSALS: u32 = 11;
 
 // The number that stands for a refusal.
 pub fn refusal_number(q: Refusal) -> u32
@@ -147,7 +144,7 @@ pub fn judge_module(previous: u32, line: Module) -> Verdict
     ensures { λ r. ⌜ r ≡ moduleVerdict previous line ⌝ }
 {
     let n = line.n;
-    let rest = order_then(previous, n, module_then(line.kind, line.r, Verdict::Fine));
+    let rest = order_then(previous, n, module_then(line, Verdict::Fine));
     station_then(n, rest)
 }
 

@@ -33,6 +33,19 @@ decimal-more n h k = rw (le-ltb n 10 h) (ap (λ (l : List ℕ). l ++ ((48 + n % 
 pub length-more : (n : ℕ) → 10 ≤ n → n < 10000000000 → length (decimal n) ≡ length (decimal (n / 10)) + 1
 length-more n h k = ap length (decimal-more n h k) ∙ length-append (decimal (n / 10)) ((48 + n % 10) ∷ [])
 
+bound-ten : (k : ℕ) → 10 ≤ bound k
+bound-ten zero = omega arith
+bound-ten (suc k) = omega (arith, bound-ten k)
+
+-- the numbers of k + 2 digits
+pub length-between : (k n : ℕ) → bound k ≤ n → n < bound (suc k) → n < 10000000000 → length (decimal n) ≡ k + 2
+length-between zero n low high h =
+    let one : length (decimal (n / 10)) ≡ 1 = ap length (decimal-one (n / 10) (omega arith)) in
+    omega (arith, length-more n low h, one)
+length-between (suc k) n low high h =
+    let fewer : length (decimal (n / 10)) ≡ k + 2 = length-between k (n / 10) (omega arith) (omega arith) (omega arith) in
+    omega (arith, length-more n (omega (arith, bound-ten k)) h, fewer)
+
 length-up-to : (k n : ℕ) → length (decimalUpTo k n) ≤ suc k
 length-up-to zero n = omega arith
 length-up-to (suc k) n = go (ltb n 10) (length-up-to k (n / 10))

@@ -6,7 +6,7 @@ use native.Mathlib.Nat.{add-zero}
 use native.Mathlib.Numerals.{add-one}
 use native.Mathlib.Omega.{arith}
 use lib.ListN.{length, take, drop, set, length-append, length-drop, take-append-drop}
-use lib.Seq.{append-snoc, length-take-le, set-split, take-at, drop-at, drop-drop, take-set-le}
+use lib.Seq.{append-snoc, length-take-le, set-split, take-at, take-append-le, take-length, drop-at, drop-drop, take-set-le}
 use Rattle.text.specs.Paste.{pasted, Put}
 
 pub paste-nothing : (o : List ℕ) (at : ℕ) → pasted o at [] ≡ o
@@ -72,3 +72,15 @@ put-then {o} {p} {q} {a} {b} {i} {j} {k} f g h =
       buffer = g .buffer ∙ rw (f .buffer, f .place) (paste-then o i a b h);
       place = g .place ∙ rw (f .place, length-append a b) (omega arith);
     }
+
+-- text that was put at the start of a buffer is its first bytes
+pub put-first : {o t p : List ℕ} {next : ℕ} → Put o 0 t p next → take next p ≡ t
+unfolding pasted
+put-first {o} {t} {p} {next} f =
+    let e : next ≡ length t = omega (arith, f .place) in
+    ap (λ (n : ℕ). take n p) e ∙ ap (take (length t)) (f .buffer) ∙ take-append-le (length t) t (drop (0 + length t) o) (omega arith) ∙ take-length t
+
+-- and lies within it
+pub put-within : {o t p : List ℕ} {next : ℕ} → Put o 0 t p next → next ≤ length p
+unfolding pasted
+put-within {o} {t} f = omega (arith, ap length (f .buffer) ∙ length-append t (drop (0 + length t) o), f .place)

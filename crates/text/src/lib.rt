@@ -11,13 +11,18 @@ ghost use Rattle.text.specs.Text.{decimal};
 fn places(n: u32) -> usize
     ensures { λ r. ⌜ r ≡ length (decimal n) ⌝ }
 {
-    let mut count = 1;
-    let mut rest = n;
-    while rest > 9 {
-        rest /= 10;
-        count += 1;
+    match n {
+        0..=9 => 1,
+        10..=99 => 2,
+        100..=999 => 3,
+        1000..=9999 => 4,
+        10000..=99999 => 5,
+        100000..=999999 => 6,
+        1000000..=9999999 => 7,
+        10000000..=99999999 => 8,
+        100000000..=999999999 => 9,
+        _ => 10,
     }
-    count
 }
 
 // Puts the last k digits of n at index at, from the right.

@@ -11,3 +11,4 @@ pub mod Path
 pub mod Going
 pub mod Repeating
 pub mod Stopping
+pub mod WalkLaws

@@ -2,3 +2,4 @@ pub mod Cycle
 pub mod Scan
 pub mod Repeat
 pub mod Stop
+pub mod Walk

@@ -1,23 +1,22 @@
--- What a step counts as: which watches see it, when two steps that are refused are equal, and what its six words tell.
+-- What a step counts as: which watches see it, and when two steps that are refused are equal.
 -- Assumes nothing.
 use mathlib.Core.Path.{_≡_, refl, sym, ap, _∙_}
-use mathlib.Core.Bool.{Bool, true, false, false≢true, cond, _&&_, and-eq-true-iff}
+use mathlib.Core.Bool.{Bool, true, false, false≢true, _&&_}
 use mathlib.Core.Logic.{_⊎_, inl, inr}
 use mathlib.Core.List.{List}
 use Prim.Native.Nat.{ℕ, _+_, _-_, _*_, _≤_, _<_}
 use native.Mathlib.Omega.{arith}
 use native.Mathlib.Decide.{decLt, ℕ-discrete}
-use borrow.Author.Tests.{le-leb, eq-eqb, ne-eqb, eqb-true}
+use borrow.Author.Tests.{le-leb, eq-eqb, ne-eqb}
 use lib.Dec.{eqb}
 use lib.ListN.{length, length-replicate}
-use Rattle.step.specs.Refusals.{refusalNumber, verdictNumber}
+use Rattle.step.specs.Refusals.{refusalNumber, refusals, verdictNumber}
 use Rattle.step.specs.Touches.{reach}
 use Rattle.step.specs.Verdict.{isFine, stepVerdict, verdictOf}
 use Rattle.step.proofs.Fine.{command-fine, front-fine, scan-fields, repeat-fine, stop-fine}
 use Rattle.step.proofs.Lengths.{judged-by-length}
-use Rattle.step.proofs.Numbers.{row, row-number, number-injective}
+use Rattle.step.proofs.Numbers.{numbered, number-injective}
 use Rattle.step.specs.declared.Refusal.{Refusal}
-use Rattle.step.specs.declared.Refusal.the-variants.{Garbled, NoSuchStation, NoSuchSubaddress, NoSuchFunction, OverwideWord, CrossedRange, BadLength, ShortBuffer, UnfitCrate, BadModule, OutOfOrder}
 use Rattle.step.specs.declared.Step.{Step}
 use Rattle.step.specs.declared.Step.the-variants.{Command, Front, Z, C, Inhibit, LookAtMe, Scan, Repeat, Stop}
 use Rattle.step.specs.declared.Reading.{Reading}
@@ -25,11 +24,9 @@ use Rattle.step.specs.declared.Reading.the-variants.{Good, Bad}
 use Rattle.step.specs.declared.Verdict.{Verdict}
 use Rattle.step.specs.declared.Verdict.the-variants.{Fine, Refuse}
 use borrow.Rule.Slice.PartMut.{midOf}
-use Rattle.lists.specs.Words.{kindsOf, readingOf, part}
+use Rattle.lists.specs.Words.{readingOf, part}
 use Rattle.lists.proofs.Parts.{part-lent}
 use Rattle.verdict.specs.Counted.{lent, countedAs, counted, touchesLent, refusalOf, see, stepAt}
-use Rattle.verdict.specs.Equal.{plain, plainOf, wordsOf, same}
-use Rattle.verdict.specs.declared.Plain.{Plain}
 use Rattle.verdict.proofs.Lawful.{Sorted, sees-station, sees-refusal}
 
 pub lent-long : length lent ≡ 512
@@ -42,19 +39,6 @@ judged-lent (Good s) b e = judged-by-length s b lent (e ∙ sym lent-long)
 judged-lent (Bad q) b e = refl
 
 -- ---- every step is refused with a number of the table or touches a station
-number-bounds : (q : Refusal) → (1 ≤ refusalNumber q) × (refusalNumber q ≤ 11)
-number-bounds Garbled = (omega arith, omega arith)
-number-bounds NoSuchStation = (omega arith, omega arith)
-number-bounds NoSuchSubaddress = (omega arith, omega arith)
-number-bounds NoSuchFunction = (omega arith, omega arith)
-number-bounds OverwideWord = (omega arith, omega arith)
-number-bounds CrossedRange = (omega arith, omega arith)
-number-bounds BadLength = (omega arith, omega arith)
-number-bounds ShortBuffer = (omega arith, omega arith)
-number-bounds UnfitCrate = (omega arith, omega arith)
-number-bounds BadModule = (omega arith, omega arith)
-number-bounds OutOfOrder = (omega arith, omega arith)
-
 abbrev Reached : Step → Type 0
 Reached s = (n : ℕ) × (1 ≤ n) × (n ≤ 23) × (reach s n ≡ true)
 
@@ -75,9 +59,9 @@ pub steps-sorted : Sorted touchesLent refusalOf
 steps-sorted r = go r (verdictOf r lent) refl
   where
     go : (r : Reading) (v : Verdict) → verdictOf r lent ≡ v
-        → ((1 ≤ refusalOf r) × (refusalOf r ≤ 11)) ⊎ ((n : ℕ) × (1 ≤ n) × (n ≤ 23) × (touchesLent r n ≡ true))
-    go r (Refuse q) e = inl (rw e (number-bounds q))
-    go (Bad q) Fine e = inl (number-bounds q)
+        → ((1 ≤ refusalOf r) × (refusalOf r ≤ refusals)) ⊎ ((n : ℕ) × (1 ≤ n) × (n ≤ 23) × (touchesLent r n ≡ true))
+    go r (Refuse q) e = let n = numbered q in inl (rw e (n .low, n .high))
+    go (Bad q) Fine e = let n = numbered q in inl (n .low, n .high)
     go (Good s) Fine e =
         let h : Reached s = reaches-one s lent (ap isFine e) in
         inr (h .0, h .1, h .2, ap (λ (v : Verdict). isFine v && reach s (h .0)) e ∙ h .3)
@@ -147,7 +131,7 @@ pub see-bad : (q : Refusal) (k : ℕ) → see k (Bad q) ≡ eqb k (23 + refusalN
 see-bad q k = go (decLt 23 k)
   where
     pos : 1 ≤ refusalNumber q
-    pos = number-bounds q .0
+    pos = numbered q .low
 
     go : Dec (23 < k) → see k (Bad q) ≡ eqb k (23 + refusalNumber q)
     go (no b) =
@@ -162,7 +146,7 @@ see-bad q k = go (decLt 23 k)
 see-counted : (s : Step) (k : ℕ) (v : Verdict) → k ≤ 23 → verdictOf (Good s) lent ≡ v → see k (counted (Good s)) ≡ isFine v && reach s k
 see-counted s k Fine l e = let c : counted (Good s) ≡ Good s = counted-fine (Good s) e in ap (see k) c ∙ see-good s k c l
 see-counted s k (Refuse q) l e =
-    ap (see k) (counted-refused (Good s) q e) ∙ see-bad q k ∙ ne-eqb k (23 + refusalNumber q) (λ f. omega (arith, f, l, number-bounds q .0))
+    ap (see k) (counted-refused (Good s) q e) ∙ see-bad q k ∙ ne-eqb k (23 + refusalNumber q) (λ f. omega (arith, f, l, numbered q .low))
 
 pub see-unreached : (s : Step) (k : ℕ) (t : Bool) → k ≤ 23 → t ≡ reach s k → t ≡ false → false ≡ see k (counted (Good s))
 see-unreached s k t l e f =
@@ -186,113 +170,15 @@ pub see-no-step : (ws : List ℕ) (i k : ℕ) (reading : Reading) (q : Refusal) 
     → false ≡ see k (stepAt ws i)
 see-no-step ws i k reading q l e h =
     sym (ap (see k) (sym (step-read ws i reading (Bad q) (Bad q) e h (bad-counts q))) ∙ see-bad q k
-    ∙ ne-eqb k (23 + refusalNumber q) (λ f. omega (arith, f, l, number-bounds q .0)))
+    ∙ ne-eqb k (23 + refusalNumber q) (λ f. omega (arith, f, l, numbered q .low)))
 
 pub see-step : (ws : List ℕ) (i k : ℕ) (reading : Reading) (s : Step) (t : Bool) → reading ≡ readingOf (midOf (6 * i) (6 * i + 6 - 6 * i) ws) → reading ≡ Good s
     → t ≡ see k (counted (Good s)) → t ≡ see k (stepAt ws i)
 see-step ws i k reading s t e h g = g ∙ ap (see k) (step-read ws i reading (Good s) (counted (Good s)) e h refl)
 
 -- a refusal's number, and the watch that it makes
-pub number-small : (q : Refusal) (x : ℕ) → x ≡ refusalNumber q → x ≤ 11
-number-small q x e = omega (arith, e, number-bounds q .1)
+pub number-small : (q : Refusal) (x : ℕ) → x ≡ refusalNumber q → x ≤ refusals
+number-small q x e = omega (arith, e, numbered q .high)
 
 pub see-refused : (r : Reading) (q : Refusal) (k x : ℕ) → r ≡ Bad q → x ≡ refusalNumber q → eqb k (23 + x) ≡ see k r
 see-refused r q k x er ex = ap (λ (n : ℕ). eqb k (23 + n)) ex ∙ sym (see-bad q k) ∙ ap (see k) (sym er)
-
--- ---- the six words tell the step
-pub plain-refused : (r : Reading) (q : Refusal) (x : ℕ) → r ≡ Bad q → x ≡ refusalNumber q → plain 0 x 0 0 0 0 ≡ plainOf r
-plain-refused r q x er ex = ap (λ (n : ℕ). plain 0 n 0 0 0 0) ex ∙ ap plainOf (sym er)
-
-abbrev readPlain : Plain → Reading
-readPlain x =
-    cond (eqb (x .kind) 0) (Bad (row (x .p)))
-    (cond (eqb (x .kind) 1) (Good (Command (x .p) (x .q) (x .r) (x .s)))
-    (cond (eqb (x .kind) 2) (Good (Front (x .p) (x .q) (x .r)))
-    (cond (eqb (x .kind) 3) (Good Z)
-    (cond (eqb (x .kind) 4) (Good C)
-    (cond (eqb (x .kind) 5) (Good (Inhibit (x .p)))
-    (cond (eqb (x .kind) 6) (Good LookAtMe)
-    (cond (eqb (x .kind) 7) (Good (Scan (x .p) (x .q) (x .r) (x .s) (x .t)))
-    (cond (eqb (x .kind) 8) (Good (Repeat (x .p) (x .q) (x .r) (x .s) (x .t)))
-    (Good (Stop (x .p) (x .q) (x .r) (x .s)))))))))))
-
-plain-back : (r : Reading) → readPlain (plainOf r) ≡ r
-plain-back (Good (Command n a f w)) = refl
-plain-back (Good (Front n a v)) = refl
-plain-back (Good Z) = refl
-plain-back (Good C) = refl
-plain-back (Good (Inhibit v)) = refl
-plain-back (Good LookAtMe) = refl
-plain-back (Good (Scan n a f to limit)) = refl
-plain-back (Good (Repeat n a f limit tries)) = refl
-plain-back (Good (Stop n a f limit)) = refl
-plain-back (Bad q) = ap Bad (row-number q)
-
-same-plain : (x y : Plain) → same x y ≡ true → x ≡ y
-same-plain x y h = rw (
-  eqb-true (x .kind) (y .kind) (a .0),
-  eqb-true (x .p) (y .p) (b .0),
-  eqb-true (x .q) (y .q) (c .0),
-  eqb-true (x .r) (y .r) (d .0),
-  eqb-true (x .s) (y .s) (e .0),
-  eqb-true (x .t) (y .t) (e .1),
-)
-  where
-    a : (eqb (x .kind) (y .kind) ≡ true) × ((eqb (x .p) (y .p) && (eqb (x .q) (y .q) && (eqb (x .r) (y .r) && (eqb (x .s) (y .s) && eqb (x .t) (y .t))))) ≡ true)
-    a = and-eq-true-iff (eqb (x .kind) (y .kind)) _ .0 h
-
-    b : (eqb (x .p) (y .p) ≡ true) × ((eqb (x .q) (y .q) && (eqb (x .r) (y .r) && (eqb (x .s) (y .s) && eqb (x .t) (y .t)))) ≡ true)
-    b = and-eq-true-iff (eqb (x .p) (y .p)) _ .0 (a .1)
-
-    c : (eqb (x .q) (y .q) ≡ true) × ((eqb (x .r) (y .r) && (eqb (x .s) (y .s) && eqb (x .t) (y .t))) ≡ true)
-    c = and-eq-true-iff (eqb (x .q) (y .q)) _ .0 (b .1)
-
-    d : (eqb (x .r) (y .r) ≡ true) × ((eqb (x .s) (y .s) && eqb (x .t) (y .t)) ≡ true)
-    d = and-eq-true-iff (eqb (x .r) (y .r)) _ .0 (c .1)
-
-    e : (eqb (x .s) (y .s) ≡ true) × (eqb (x .t) (y .t) ≡ true)
-    e = and-eq-true-iff (eqb (x .s) (y .s)) _ .0 (d .1)
-
--- where the first five words are equal, the last decides
-pub last-decides : (x y : Plain) → x .kind ≡ y .kind → x .p ≡ y .p → x .q ≡ y .q → x .r ≡ y .r → x .s ≡ y .s → eqb (x .t) (y .t) ≡ same x y
-last-decides x y a b c d e = rw (
-  eq-eqb (x .kind) (y .kind) a,
-  eq-eqb (x .p) (y .p) b,
-  eq-eqb (x .q) (y .q) c,
-  eq-eqb (x .r) (y .r) d,
-  eq-eqb (x .s) (y .s) e,
-)
-
-same-self : (x : Plain) → same x x ≡ true
-same-self x = rw (
-  eq-eqb (x .kind) (x .kind) refl,
-  eq-eqb (x .p) (x .p) refl,
-  eq-eqb (x .q) (x .q) refl,
-  eq-eqb (x .r) (x .r) refl,
-  eq-eqb (x .s) (x .s) refl,
-  eq-eqb (x .t) (x .t) refl,
-)
-
-pub same-true : (r s : Reading) → same (plainOf r) (plainOf s) ≡ true → r ≡ s
-same-true r s h = sym (plain-back r) ∙ ap readPlain (same-plain (plainOf r) (plainOf s) h) ∙ plain-back s
-
--- equal words are equal steps
-reading-same : (u w : List ℕ) → wordsOf u ≡ wordsOf w → readingOf u ≡ readingOf w
-unfolding readingOf kindsOf
-reading-same u w e = rw (
-  ap (λ (x : Plain). x .kind) e,
-  ap (λ (x : Plain). x .p) e,
-  ap (λ (x : Plain). x .q) e,
-  ap (λ (x : Plain). x .r) e,
-  ap (λ (x : Plain). x .s) e,
-  ap (λ (x : Plain). x .t) e,
-)
-
-pub words-same : (us : List ℕ) (i : ℕ) (ws : List ℕ) (j : ℕ) (x y : Plain) (b : Bool) → x ≡ wordsOf (part 6 us i) → y ≡ wordsOf (part 6 ws j)
-    → b ≡ same x y → b ≡ true → true ≡ same (plainOf (stepAt us i)) (plainOf (stepAt ws j))
-words-same us i ws j x y b ex ey e t =
-    let r : stepAt us i ≡ stepAt ws j = ap counted (reading-same (part 6 us i) (part 6 ws j) (sym ex ∙ same-plain x y (sym e ∙ t) ∙ ey)) in
-    sym (ap (λ (t : Reading). same (plainOf (stepAt us i)) (plainOf t)) (sym r) ∙ same-self (plainOf (stepAt us i)))
-
-pub same-false : (r s : Reading) → same (plainOf r) (plainOf s) ≡ false → r ≡ s → ⊥
-same-false r s h e = false≢true (sym h ∙ ap (λ (t : Reading). same (plainOf r) (plainOf t)) (sym e) ∙ same-self (plainOf r))

@@ -11,13 +11,14 @@ use borrow.Author.Tests.{le-leb, lt-leb, eq-eqb, eqb-true}
 use lib.Dec.{eqb}
 use lib.ListN.{length, getD}
 use Rattle.regroup.specs.Lists.{Common, Rearranged}
+use Rattle.step.specs.Refusals.{refusals}
 use Rattle.verdict.specs.Watches.{only, Watch, sees}
 use Rattle.verdict.proofs.Trace.{SeenAlike, Shares, lawful}
 use Rattle.verdict.proofs.Converse.{picked}
 
 -- each step is refused with a number of the table or touches a station
 abbrev pub Sorted : {Step : Type 0} → (Step → ℕ → Bool) → (Step → ℕ) → Type 0
-Sorted {Step} touches refusal = (s : Step) → ((1 ≤ refusal s) × (refusal s ≤ 11)) ⊎ ((n : ℕ) × (1 ≤ n) × (n ≤ 23) × (touches s n ≡ true))
+Sorted {Step} touches refusal = (s : Step) → ((1 ≤ refusal s) × (refusal s ≤ refusals)) ⊎ ((n : ℕ) × (1 ≤ n) × (n ≤ 23) × (touches s n ≡ true))
 
 -- steps of the list that are refused with the same number are equal steps
 abbrev pub Uniform : {Step : Type 0} → (Step → ℕ) → Step → List Step → Type 0
@@ -39,7 +40,7 @@ module _ {Step : Type 0} (touches : Step → ℕ → Bool) (refusal : Step → �
   every : Sorted touches refusal → (s : Step) → (n : ℕ) × Watch n × (see n s ≡ true)
   every sorted s = go (sorted s)
     where
-      go : ((1 ≤ refusal s) × (refusal s ≤ 11)) ⊎ ((n : ℕ) × (1 ≤ n) × (n ≤ 23) × (touches s n ≡ true)) → (n : ℕ) × Watch n × (see n s ≡ true)
+      go : ((1 ≤ refusal s) × (refusal s ≤ refusals)) ⊎ ((n : ℕ) × (1 ≤ n) × (n ≤ 23) × (touches s n ≡ true)) → (n : ℕ) × Watch n × (see n s ≡ true)
       go (inl r) = (
         23 + refusal s,
         (omega arith, omega (arith, r)),

@@ -2,6 +2,8 @@ pub mod Trace
 pub mod Converse
 pub mod Lawful
 pub mod CountedLaws
+pub mod EqualLaws
 pub mod Promises
 pub mod Walks
 pub mod Sole
+pub mod RunsLaws

@@ -73,12 +73,12 @@ list-counted ws bs m (suc k) h = more (list-counted ws bs m k (omega arith))
 
 -- ---- a row
 module _ {A : Type 0} (f : ℕ → A) where
-  firsts-length : (k : ℕ) → length (firsts f k) ≡ k
+  pub firsts-length : (k : ℕ) → length (firsts f k) ≡ k
   unfolding firsts
   firsts-length zero = refl
   firsts-length (suc k) = length-append (firsts f k) (f k ∷ []) ∙ omega (arith, firsts-length k)
 
-  firsts-at : (d : A) (k i : ℕ) → i < k → getD (firsts f k) i d ≡ f i
+  pub firsts-at : (d : A) (k i : ℕ) → i < k → getD (firsts f k) i d ≡ f i
   unfolding firsts
   firsts-at d zero i h = absurd (not-suc-le-zero h)
   firsts-at d (suc k) i h = go (eq-or-lt-of-le (le-of-suc-le-suc h)) (λ l. firsts-at d k i l)

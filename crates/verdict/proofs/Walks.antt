@@ -9,17 +9,16 @@ use native.Mathlib.Nat.{le-of-suc-le-suc, eq-or-lt-of-le}
 use native.Mathlib.Numerals.{add-one}
 use native.Mathlib.Decide.{decLt}
 use native.Mathlib.Omega.{arith}
-use lib.ListN.{length, drop}
+use lib.ListN.{length, drop, length-append}
 use lib.Seq.{drop-at}
 use Rattle.step.specs.declared.Reading.{Reading}
-use Rattle.verdict.specs.Watches.{only, Watch}
-use Rattle.verdict.specs.Counted.{see, count, stepAt, firsts, past, seenTo, seen}
-use Rattle.verdict.specs.Equal.{plainOf, same}
+use Rattle.step.specs.declared.Reading.the-variants.{Good, Bad}
+use Rattle.verdict.specs.Watches.{only, lastWatch, Watch}
+use Rattle.verdict.specs.Counted.{see, count, stepAt, firsts, past, seenTo, seen, isRefused, refusedTo}
 use Rattle.verdict.specs.Compared.{Next, Parts, Watched, Stands, Compared}
 use Rattle.verdict.specs.declared.Comparison.{Comparison}
 use Rattle.verdict.specs.declared.Comparison.the-variants.{Same, Parted}
 use Rattle.verdict.proofs.Trace.{only-in, only-out, head-is}
-use Rattle.verdict.proofs.CountedLaws.{same-true, same-false}
 use Rattle.verdict.proofs.Promises.{promised, seen-alike}
 
 -- ---- a list's first steps
@@ -46,6 +45,28 @@ firsts-out : (ws : List ℕ) (k i : ℕ) → see k (stepAt ws i) ≡ false → s
 firsts-out ws k i t =
     ap (only (see k)) (firsts-more ws i) ∙ only-append (see k) (firsts (stepAt ws) i) (stepAt ws i ∷ [])
     ∙ ap (λ l. seenTo k ws i ++ l) (only-out (see k) past (stepAt ws i) [] t) ∙ append-nil (seenTo k ws i)
+
+-- ---- how many are refused
+
+-- one step more
+pub refused-more : (ws : List ℕ) (i : ℕ) → refusedTo ws (i + 1) ≡ refusedTo ws i + length (only isRefused (stepAt ws i ∷ []))
+refused-more ws i =
+    ap length (ap (only isRefused) (firsts-more ws i) ∙ only-append isRefused (firsts (stepAt ws) i) (stepAt ws i ∷ []))
+    ∙ length-append (only isRefused (firsts (stepAt ws) i)) (only isRefused (stepAt ws i ∷ []))
+
+pub refused-none : (ws : List ℕ) → refusedTo ws 0 ≡ 0
+unfolding firsts
+refused-none ws = refl
+
+one-few : (r : Reading) → length (only isRefused (r ∷ [])) ≤ 1
+one-few (Good s) = omega arith
+one-few (Bad q) = omega arith
+
+-- no more than there are steps
+pub refused-few : (ws : List ℕ) (i : ℕ) → refusedTo ws i ≤ i
+refused-few ws zero = omega (arith, refused-none ws)
+refused-few ws (suc i) =
+    omega (arith, ap (refusedTo ws) (add-one i), refused-more ws i, refused-few ws i, one-few (stepAt ws i))
 
 -- ---- the next step that a watch sees
 
@@ -84,19 +105,19 @@ module _ (us ws : List ℕ) (k i j x y : ℕ) (s : Walking us ws k i j) (a : Nex
   so-far : seenTo k us x ≡ seenTo k ws y
   so-far = a .skips ∙ s .before ∙ sym (b .skips)
 
-  pub walking-more : x < count us → y < count ws → same (plainOf (stepAt us x)) (plainOf (stepAt ws y)) ≡ true → Walking us ws k (x + 1) (y + 1)
+  pub walking-more : x < count us → y < count ws → stepAt us x ≡ stepAt ws y → Walking us ws k (x + 1) (y + 1)
   walking-more hx hy e = record {
     first = omega (arith, hx);
     second = omega (arith, hy);
     before =
         firsts-in us k x (a .here hx) ∙ ap (λ l. l ++ (stepAt us x ∷ [])) so-far
-        ∙ ap (λ t. seenTo k ws y ++ (t ∷ [])) (same-true (stepAt us x) (stepAt ws y) e) ∙ sym (firsts-in ws k y (b .here hy));
+        ∙ ap (λ t. seenTo k ws y ++ (t ∷ [])) e ∙ sym (firsts-in ws k y (b .here hy));
   }
 
   pub walking-same : x ≡ count us → y ≡ count ws → seen k us ≡ seen k ws
   walking-same ex ey = ap (λ (n : ℕ). seenTo k us n) (sym ex) ∙ so-far ∙ ap (λ (n : ℕ). seenTo k ws n) ey
 
-  pub walking-parts : (x < count us) ⊎ (y < count ws) → (x < count us → y < count ws → same (plainOf (stepAt us x)) (plainOf (stepAt ws y)) ≡ false)
+  pub walking-parts : (x < count us) ⊎ (y < count ws) → (x < count us → y < count ws → stepAt us x ≡ stepAt ws y → ⊥)
       → Parts us ws k x y
   walking-parts o e = record {
     first = a .high;
@@ -105,12 +126,8 @@ module _ (us ws : List ℕ) (k i j x y : ℕ) (s : Walking us ws k i j) (a : Nex
     seen-first = a .here;
     seen-second = b .here;
     one = o;
-    apart = λ hx hy. same-false (stepAt us x) (stepAt ws y) (e hx hy);
+    apart = e;
   }
-
--- a test's answer, told
-pub told-by : (r s : Bool) (b : Bool) → r ≡ s → r ≡ b → s ≡ b
-told-by r s b e f = sym e ∙ f
 
 -- ---- where lists part, they part for good
 
@@ -179,7 +196,7 @@ parts-differ us ws k i j p h = go (decLt i (count us)) (decLt j (count ws))
 abbrev pub Below : List ℕ → List ℕ → ℕ → Type 0
 Below us ws k = (n : ℕ) → 1 ≤ n → n < k → seen n us ≡ seen n ws
 
-pub compared-same : (us ws : List ℕ) (k : ℕ) → 35 ≤ k → Below us ws k → Compared us ws Same
+pub compared-same : (us ws : List ℕ) (k : ℕ) → lastWatch < k → Below us ws k → Compared us ws Same
 compared-same us ws k h all = (alike, promised us ws alike)
   where
     alike : (n : ℕ) → Watch n → seen n us ≡ seen n ws
@@ -191,15 +208,15 @@ compared-parted us ws k n i j v all e a =
     subst (λ (m : ℕ). Compared us ws (Parted m i j)) (sym (q .1))
     (q .0, all, q .2, λ p r. parts-differ us ws k i j (q .2) (seen-alike us ws p r k (q .0)))
 
-pub below-more : (us ws : List ℕ) (k : ℕ) (v : Comparison) → 1 ≤ k → k < 35 → Below us ws k → v ≡ Same → Watched us ws k v → Below us ws (k + 1)
-below-more us ws k v low high all e a n l h = go (decLt n k)
+pub below-more : (us ws : List ℕ) (k : ℕ) (v : Comparison) → Watch k → Below us ws k → v ≡ Same → Watched us ws k v → Below us ws (k + 1)
+below-more us ws k v watch all e a n l h = go (decLt n k)
   where
     here : Watch k → seen k us ≡ seen k ws
     here = subst (λ (v : Comparison). Watched us ws k v) e a
 
     go : Dec (n < k) → seen n us ≡ seen n ws
     go (yes b) = all n l b
-    go (no b) = subst (λ (m : ℕ). seen m us ≡ seen m ws) {x = k} (omega (arith, b, h)) (here (low, omega (arith, high)))
+    go (no b) = subst (λ (m : ℕ). seen m us ≡ seen m ws) {x = k} (omega (arith, b, h)) (here watch)
 
 -- ---- where a step stands
 pub record Seeking (us : List ℕ) (i : ℕ) (ws : List ℕ) (from j : ℕ) : Type 0 where
@@ -211,7 +228,7 @@ pub seeking-start : (us : List ℕ) (i : ℕ) (ws : List ℕ) (from : ℕ) → f
 seeking-start us i ws from h = record { low = omega arith; high = h; before = λ n a b. absurd (omega (arith, a, b)) }
 
 module _ (us : List ℕ) (i : ℕ) (ws : List ℕ) (from j : ℕ) (s : Seeking us i ws from j) where
-  pub seeking-more : j < count ws → same (plainOf (stepAt us i)) (plainOf (stepAt ws j)) ≡ false → Seeking us i ws from (j + 1)
+  pub seeking-more : j < count ws → (stepAt us i ≡ stepAt ws j → ⊥) → Seeking us i ws from (j + 1)
   seeking-more h e = record {
     low = omega (arith, s .low);
     high = omega (arith, h);
@@ -220,12 +237,12 @@ module _ (us : List ℕ) (i : ℕ) (ws : List ℕ) (from j : ℕ) (s : Seeking u
     where
       go : (n : ℕ) → from ≤ n → n < j + 1 → Dec (n < j) → stepAt us i ≡ stepAt ws n → ⊥
       go n a b (yes l) = s .before n a l
-      go n a b (no l) = subst (λ (m : ℕ). stepAt us i ≡ stepAt ws m → ⊥) {x = j} {y = n} (omega (arith, b, l)) (same-false (stepAt us i) (stepAt ws j) e)
+      go n a b (no l) = subst (λ (m : ℕ). stepAt us i ≡ stepAt ws m → ⊥) {x = j} {y = n} (omega (arith, b, l)) e
 
-  pub seeking-found : i < count us → same (plainOf (stepAt us i)) (plainOf (stepAt ws j)) ≡ true → Stands us i ws from j
+  pub seeking-found : i < count us → stepAt us i ≡ stepAt ws j → Stands us i ws from j
   seeking-found l e = record {
     high = s .high;
-    here = λ h. (s .low, l, same-true (stepAt us i) (stepAt ws j) e);
+    here = λ h. (s .low, l, e);
     before = λ n a b h. s .before n a b;
   }
 

@@ -1,5 +1,5 @@
 -- A list of steps lent as words, six words a step, each step with a buffer of 512 words: what each step counts as where two lists are compared.
-use mathlib.Core.Bool.{Bool}
+use mathlib.Core.Bool.{Bool, true, false}
 use mathlib.Core.List.{List, [], _∷_, _++_}
 use Prim.Native.Nat.{ℕ, zero, suc, _/_}
 use lib.ListN.{length, replicate}
@@ -8,7 +8,7 @@ use Rattle.step.specs.Touches.{touchesOf}
 use Rattle.step.specs.Verdict.{verdictOf}
 use Rattle.step.specs.declared.Refusal.the-variants.{Garbled}
 use Rattle.step.specs.declared.Reading.{Reading}
-use Rattle.step.specs.declared.Reading.the-variants.{Bad}
+use Rattle.step.specs.declared.Reading.the-variants.{Good, Bad}
 use Rattle.step.specs.declared.Verdict.{Verdict}
 use Rattle.step.specs.declared.Verdict.the-variants.{Fine, Refuse}
 use Rattle.lists.specs.Words.{readingOf, part}
@@ -63,6 +63,17 @@ seenTo k ws i = only (see k) (firsts (stepAt ws) i)
 
 abbrev pub seen : ℕ → List ℕ → List Reading
 seen k ws = only (see k) (steps ws)
+
+-- how many steps of the list are refused, of which nothing but the number is compared
+abbrev pub isRefused : Reading → Bool
+isRefused (Good s) = false
+isRefused (Bad q) = true
+
+abbrev pub refusedTo : List ℕ → ℕ → ℕ
+refusedTo ws i = length (only isRefused (firsts (stepAt ws) i))
+
+abbrev pub refusedIn : List ℕ → ℕ
+refusedIn ws = refusedTo ws (count ws)
 
 -- (what stands past a list's end, and is never looked at)
 abbrev pub past : Reading

@@ -1,4 +1,5 @@
 pub mod Watches
 pub mod Counted
-pub mod Equal
+pub mod Tells
 pub mod Compared
+pub mod Runs

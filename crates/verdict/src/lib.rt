@@ -2,34 +2,26 @@
 // A list is looked at watch by watch: watch k from 1 to 23 is station k and sees the steps that touch it, and watch 23 + r sees the steps that are
 // refused with r. The open calls come last; what stands before them is lent a buffer of 512 words, as a list's steps are.
 ghost use mathlib.Core.Path.{_≡_};
+ghost use mathlib.Core.List.{[], _∷_};
 ghost use Prim.Native.Nat.{_≤_, _<_};
 ghost use lib.ListN.{length};
 ghost use Rattle.step.specs.Touches.{reach};
 ghost use Rattle.step.specs.declared.Reading.{Reading};
-ghost use Rattle.lists.specs.Words.{part};
-ghost use Rattle.verdict.specs.Watches.{Watch};
-ghost use Rattle.verdict.specs.Counted.{counted, see, count, stepAt};
-ghost use Rattle.verdict.specs.Equal.{plain, plainOf, wordsOf, same};
+ghost use Rattle.verdict.specs.Watches.{only, Watch};
+ghost use Rattle.verdict.specs.Counted.{counted, see, count, stepAt, isRefused, refusedIn};
+ghost use Rattle.verdict.specs.Tells.{Tells};
 ghost use Rattle.verdict.specs.Compared.{Next, Watched, Stands, Compared};
 use lists::BUFFER_WORDS;
 use lists::STEP_WORDS;
+use step::REFUSALS;
 use step::Reading;
 use step::Step;
 use step::Verdict;
 
 const LAST_STATION: u32 = 23;
 
-const LAST_WATCH: u32 = 34;
-
-// A step as six words: its kind and its fields, and then 0; a refusal is 0 and its number.
-struct Plain {
-    kind: u32,
-    p: u32,
-    q: u32,
-    r: u32,
-    s: u32,
-    t: u32,
-}
+// A watch for each station, and one for each refusal.
+pub const LAST_WATCH: u32 = LAST_STATION + REFUSALS;
 
 // Parted: the watch, and the places in the first list and in the second where it parts.
 pub enum Comparison {
@@ -153,163 +145,64 @@ fn sees_at(words: &[u32], i: usize, k: u32, lent: &[u32]) -> bool
     sees(step_at(words, i, lent), k)
 }
 
-// The six words of a step without fields.
-fn bare(kind: u32) -> Plain
-    ensures { λ r. ⌜ r ≡ plain kind 0 0 0 0 0 ⌝ }
+// Six words are equal.
+fn same_words(x: &[u32], y: &[u32]) -> bool
+    requires { ⌜ (length (now x) ≡ 6) × (length (now y) ≡ 6) ⌝ }
+    ensures { λ r. ⌜ Tells r (now (x .entry) ≡ now (y .entry)) ⌝ }
 {
-    Plain {
-        kind: kind,
-        p: 0,
-        q: 0,
-        r: 0,
-        s: 0,
-        t: 0,
+    let mut i = 0;
+    while i < STEP_WORDS {
+        if x[i] != y[i] {
+            return false;
+        }
+        i += 1;
     }
+    true
 }
 
-// The six words of a step.
-fn plain_step(step: Step) -> Plain
-    ensures { λ r. ⌜ r ≡ plainOf (Reading.Good step) ⌝ }
+// Two steps are equal: their words are.
+fn same_step(s: Step, t: Step) -> bool
+    ensures { λ r. ⌜ Tells r (s ≡ t) ⌝ }
 {
-    match step {
-        Step::Command { n, a, f, w } => Plain {
-            kind: 1,
-            p: n,
-            q: a,
-            r: f,
-            s: w,
-            t: 0,
-        },
-        Step::Front { n, a, v } => Plain {
-            kind: 2,
-            p: n,
-            q: a,
-            r: v,
-            s: 0,
-            t: 0,
-        },
-        Step::Z => bare(3),
-        Step::C => bare(4),
-        Step::Inhibit { v } => Plain {
-            kind: 5,
-            p: v,
-            q: 0,
-            r: 0,
-            s: 0,
-            t: 0,
-        },
-        Step::LookAtMe => bare(6),
-        Step::Scan { n, a, f, to, limit } => Plain {
-            kind: 7,
-            p: n,
-            q: a,
-            r: f,
-            s: to,
-            t: limit,
-        },
-        Step::Repeat {
-            n,
-            a,
-            f,
-            limit,
-            tries,
-        } => Plain {
-            kind: 8,
-            p: n,
-            q: a,
-            r: f,
-            s: limit,
-            t: tries,
-        },
-        Step::Stop { n, a, f, limit } => Plain {
-            kind: 9,
-            p: n,
-            q: a,
-            r: f,
-            s: limit,
-            t: 0,
-        },
-    }
+    let mut u = [0u32; STEP_WORDS];
+    let mut w = [0u32; STEP_WORDS];
+    lists::write_step(&mut u, s);
+    lists::write_step(&mut w, t);
+    same_words(&u, &w)
 }
 
-// The six words of a reading.
-fn plain_of(reading: Reading) -> Plain
-    ensures { λ r. ⌜ r ≡ plainOf reading ⌝ }
+// What two steps count as is equal: the same step, or the same refusal.
+fn same_reading(x: Reading, y: Reading) -> bool
+    ensures { λ r. ⌜ Tells r (x ≡ y) ⌝ }
 {
-    match reading {
-        Reading::Good(s) => plain_step(s),
-        Reading::Bad(q) => Plain {
-            kind: 0,
-            p: step::refusal_number(q),
-            q: 0,
-            r: 0,
-            s: 0,
-            t: 0,
+    match x {
+        Reading::Good(s) => match y {
+            Reading::Good(t) => same_step(s, t),
+            Reading::Bad(_) => false,
+        },
+        Reading::Bad(q) => match y {
+            Reading::Good(_) => false,
+            Reading::Bad(p) => step::refusal_number(q) == step::refusal_number(p),
         },
     }
-}
-
-// The six words are equal.
-fn same(x: Plain, y: Plain) -> bool
-    ensures { λ r. ⌜ r ≡ same x y ⌝ }
-{
-    if x.kind != y.kind {
-        return false;
-    }
-    if x.p != y.p {
-        return false;
-    }
-    if x.q != y.q {
-        return false;
-    }
-    if x.r != y.r {
-        return false;
-    }
-    if x.s != y.s {
-        return false;
-    }
-    x.t == y.t
-}
-
-// Six words as they stand.
-fn words_of(words: &[u32]) -> Plain
-    requires { ⌜ length (now words) ≡ 6 ⌝ }
-    ensures { λ r. ⌜ r ≡ wordsOf (now (words .entry)) ⌝ }
-{
-    Plain {
-        kind: words[0],
-        p: words[1],
-        q: words[2],
-        r: words[3],
-        s: words[4],
-        t: words[5],
-    }
-}
-
-// The words of step k of a list, as they stand.
-fn words_at(words: &[u32], k: usize) -> Plain
-    requires { ⌜ k < count (now words) ⌝ }
-    ensures { λ r. ⌜ r ≡ wordsOf (part 6 (now (words .entry)) k) ⌝ }
-{
-    let at = STEP_WORDS * k;
-    let to = at + STEP_WORDS;
-    words_of(&words[at..to])
 }
 
 // Step i of the first list and step j of the second are equal steps. Most that are equal have equal words, and need not be judged.
 fn equal(first: &[u32], i: usize, second: &[u32], j: usize, lent: &[u32]) -> bool
     requires { ⌜ (i < count (now first)) × (j < count (now second)) × (length (now lent) ≡ 512) ⌝ }
-    ensures { λ r. ⌜ r ≡ same (plainOf (stepAt (now (first .entry)) i)) (plainOf (stepAt (now (second .entry)) j)) ⌝ }
+    ensures { λ r. ⌜ Tells r (stepAt (now (first .entry)) i ≡ stepAt (now (second .entry)) j) ⌝ }
 {
-    let u = words_at(first, i);
-    let w = words_at(second, j);
-    let alike = same(u, w);
+    let at = STEP_WORDS * i;
+    let end = at + STEP_WORDS;
+    let from = STEP_WORDS * j;
+    let to = from + STEP_WORDS;
+    let alike = same_words(&first[at..end], &second[from..to]);
     if alike {
         return true;
     }
-    let x = plain_of(step_at(first, i, lent));
-    let y = plain_of(step_at(second, j, lent));
-    same(x, y)
+    let x = step_at(first, i, lent);
+    let y = step_at(second, j, lent);
+    same_reading(x, y)
 }
 
 // The first place from `from` on whose step watch k sees, or the number of steps.
@@ -415,6 +308,18 @@ fn seek(first: &[u32], i: usize, second: &[u32], from: usize, lent: &[u32]) -> u
     end
 }
 
+// 1 where step i of a list is refused, else 0.
+fn refused_at(words: &[u32], i: usize, lent: &[u32]) -> usize
+    requires { ⌜ (i < count (now words)) × (length (now lent) ≡ 512) ⌝ }
+    ensures { λ r. ⌜ r ≡ length (only isRefused (stepAt (now (words .entry)) i ∷ [])) ⌝ }
+{
+    let reading = step_at(words, i, lent);
+    match reading {
+        Reading::Good(_) => 0,
+        Reading::Bad(_) => 1,
+    }
+}
+
 // IS THE SECOND LIST A LAWFUL REARRANGEMENT OF THE FIRST? If not, where does the first watch that parts see them part?
 pub fn compare(first: &[u32], second: &[u32]) -> Comparison
     ensures { λ r. ⌜ Compared (now (first .entry)) (now (second .entry)) r ⌝ }
@@ -451,4 +356,19 @@ pub fn find(first: &[u32], i: usize, second: &[u32], from: usize) -> usize
     }
     let lent = [0u32; BUFFER_WORDS];
     seek(first, i, second, from, &lent)
+}
+
+// How many steps of a list are refused: they are compared by their number alone.
+pub fn refused(words: &[u32]) -> usize
+    ensures { λ r. ⌜ r ≡ refusedIn (now (words .entry)) ⌝ }
+{
+    let lent = [0u32; BUFFER_WORDS];
+    let end = words.len() / STEP_WORDS;
+    let mut many = 0;
+    let mut i = 0;
+    while i < end {
+        many += refused_at(words, i, &lent);
+        i += 1;
+    }
+    many
 }

@@ -6,6 +6,9 @@ use Rattle.station.specs.Control.{moduleOf}
 use Rattle.dataway.proofs.put_module.Statement.{statement}
 use Rattle.dataway.proofs.put_module.Tie as tie
 
+cast-from : tie.Need-cast-from
+cast-from c = search needs
+
 mul-from : tie.Need-mul-from
 mul-from c = search needs
 
@@ -32,14 +35,15 @@ same-length c = search needs
 
 returns : tie.Need-returns
 unfolding withModule
-returns c = block-lent (c .before .before .before .before .before .args .memory .now) (c .before .before .before .before .before .args .n)
-    (λ b. moduleOf (c .before .before .before .before .before .args .kind) (c .before .before .before .before .before .args .r))
-    (c .before .before .put-module .last .0) (c .before .before .put-module .ensures)
+returns c =
+    let args = c .before .before .before .before .before .before .args in
+    block-lent (args .memory .now) (args .held .n) (λ b. moduleOf (args .held)) (c .before .before .put-module .last .0) (c .before .before .put-module .ensures)
 
 pub put-module-spec : {M : Type 1} → statement M
 put-module-spec =
     tie.close
     (tie.spec
+    cast-from
     mul-from
     add-to
     mul-put-module

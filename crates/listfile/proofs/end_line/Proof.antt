@@ -19,20 +19,20 @@ mul-at c = search needs
 add-to : tie.Need-add-to
 add-to c = search needs
 
-mul-write-step : tie.Need-mul-write-step
-mul-write-step c = search needs
+mul-write-reading : tie.Need-mul-write-reading
+mul-write-reading c = search needs
 
-sub-write-step : tie.Need-sub-write-step
-sub-write-step c = search needs
+sub-write-reading : tie.Need-sub-write-reading
+sub-write-reading c = search needs
 
-part-write-step-start : tie.Need-part-write-step-start
-part-write-step-start c = search needs
+part-write-reading-start : tie.Need-part-write-reading-start
+part-write-reading-start c = search needs
 
-part-write-step-end : tie.Need-part-write-step-end
-part-write-step-end c = search needs
+part-write-reading-end : tie.Need-part-write-reading-end
+part-write-reading-end c = search needs
 
-write-step-requires : tie.Need-write-step-requires
-write-step-requires c κs = search needs
+write-reading-requires : tie.Need-write-reading-requires
+write-reading-requires c κs = search needs
 
 add-t11 : tie.Need-add-t11
 add-t11 c = search needs
@@ -42,7 +42,7 @@ same-length c = search needs
 
 returns : tie.Need-returns
 returns c = (
-  line-stored (c .before .before .before .before .before .before .before .before .before .before .args .line .now) (c .before .before .before .before .before .before .before .before .before .before .args .words .now) (c .before .before .before .before .before .before .before .before .before .before .args .s .fill) (c .before .before .before .before .before .before .before .before .before .before .args .s .number) _ _ (omega arith) (c .before .before .before .before .before .before .read-line .ensures .0) (c .before .before .before .write-step .ensures),
+  line-stored (c .before .before .before .before .before .before .before .before .before .before .args .line .now) (c .before .before .before .before .before .before .before .before .before .before .args .words .now) (c .before .before .before .before .before .before .before .before .before .before .args .s .fill) (c .before .before .before .before .before .before .before .before .before .before .args .s .number) _ _ (omega arith) (c .before .before .before .before .before .before .read-line .ensures .0) (c .before .before .before .write-reading .ensures),
   record { filled = omega arith; lined = omega arith; within = omega arith; room = omega arith },
 )
 
@@ -54,11 +54,11 @@ end-line-spec =
     read-line-requires
     mul-at
     add-to
-    mul-write-step
-    sub-write-step
-    part-write-step-start
-    part-write-step-end
-    write-step-requires
+    mul-write-reading
+    sub-write-reading
+    part-write-reading-start
+    part-write-reading-end
+    write-reading-requires
     add-t11
     same-length
     returns)

@@ -1,7 +1,9 @@
 -- `take_text` meets its contract. The loop's invariant: reader, line and words are those of the first i bytes.
-use Rattle.listfile.proofs.ListingLaws.{fed-span, fed-end, fed-all, fed-over}
-use Rattle.listfile.specs.Listing.{stateOf, feed}
-use Rattle.reader.proofs.Span.{no-lf}
+use Rattle.lines.specs.Cutting.{feed}
+use Rattle.lines.proofs.CuttingLaws.{fed-span, fed-end, fed-all, fed-over}
+use Rattle.listfile.proofs.ListingLaws.{taken, past}
+use Rattle.listfile.specs.Listing.{storing, stateOf}
+use Rattle.lines.proofs.Parts.{no-lf}
 use lib.ListN.{length, take}
 use mathlib.Core.Path.{_≡_, refl, _∙_}
 use Prim.Native.Nat.{_-_, _≤_}
@@ -16,7 +18,7 @@ Inv-loop text line₀ words₀ r₀ i₀ line words r i =
     × (length words ≡ 599994)
     × (r .fill ≤ 81)
     × (r .number ≤ 99999)
-    × (stateOf r line words ≡ feed (stateOf r₀ line₀ words₀) (take i text))
+    × (stateOf r line words ≡ feed storing (stateOf r₀ line₀ words₀) (take i text))
 
 abbrev μ-loop : tie.MeasureT-loop
 μ-loop text line₀ words₀ r₀ i₀ line words r i = length text - i
@@ -33,7 +35,7 @@ same-length-2 c = omega arith
 returns : tie.Need-returns Inv-loop μ-loop
 returns c = let a = (c .before .before .before .before .before .before .before .args) in
     let l = (c .before .before .before .loop) in (
-      fed-over (stateOf (a .s) (a .line .now) (a .words .now)) (a .text .now) (stateOf (l .r) (l .line) (l .words)) (l .i) (l .inv .5) (c .if1 .taken),
+      fed-over storing (stateOf (a .s) (a .line .now) (a .words .now)) (a .text .now) (stateOf (l .r) (l .line) (l .words)) (l .i) (l .inv .5) (past (stateOf (l .r) (l .line) (l .words)) (c .if1 .taken)),
       record { filled = omega arith; lined = omega arith; within = omega arith; room = omega arith },
     )
 
@@ -64,7 +66,7 @@ returns-2 c = let a = (c .before .before .before .before .before .before .before
     let e = (c .before .before .before .before .before .before .find-lf .result) in
     let s₀ = stateOf (a .s) (a .line .now) (a .words .now) in
     let y = stateOf (c .before .before .before .take-span .result) (c .before .before .before .take-span .last .1 .1 .0) (l .words) in (
-      fed-all s₀ (a .text .now) y e (fed-span s₀ (a .text .now) (stateOf (l .r) (l .line) (l .words)) (l .i) (l .inv .5) e y (omega arith) ((c .before .before .before .take-span .ensures .0) (l .words))) (omega arith),
+      fed-all storing s₀ (a .text .now) y e (fed-span storing s₀ (a .text .now) (stateOf (l .r) (l .line) (l .words)) (l .i) (l .inv .5) e y (omega arith) ((c .before .before .before .take-span .ensures .0) (l .words))) (omega arith),
       record { filled = omega arith; lined = omega arith; within = omega arith; room = omega arith },
     )
 
@@ -83,13 +85,13 @@ loop-again c = let a = (c .before .before .before .before .before .before .befor
     let e = (c .before .before .before .before .before .before .before .before .before .before .before .find-lf .result) in
     let s₀ = stateOf (a .s) (a .line .now) (a .words .now) in
     let y = stateOf (c .before .before .before .before .before .before .before .before .take-span .result) (c .before .before .before .before .before .before .before .before .take-span .last .1 .1 .0) (l .words) in
-    let more = fed-span s₀ (a .text .now) (stateOf (l .r) (l .line) (l .words)) (l .i) (l .inv .5) e y (omega arith) ((c .before .before .before .before .before .before .before .before .take-span .ensures .0) (l .words)) in (
+    let more = fed-span storing s₀ (a .text .now) (stateOf (l .r) (l .line) (l .words)) (l .i) (l .inv .5) e y (omega arith) ((c .before .before .before .before .before .before .before .before .take-span .ensures .0) (l .words)) in (
       omega arith,
       omega arith,
       omega arith,
       omega arith,
       omega arith,
-      (c .before .before .end-line .ensures .0) ∙ fed-end s₀ (a .text .now) y e more (omega arith) ((c .before .before .before .before .before .before .before .before .before .before .before .find-lf .ensures .there) (omega arith)) (omega arith),
+      (c .before .before .end-line .ensures .0) ∙ fed-end storing s₀ (a .text .now) y e more (omega arith) ((c .before .before .before .before .before .before .before .before .before .before .before .find-lf .ensures .there) (omega arith)) (taken y (omega arith)),
     )
 
 same-length-5 : tie.Need-same-length-5 Inv-loop μ-loop
@@ -101,7 +103,7 @@ same-length-6 c = omega arith
 returns-3 : tie.Need-returns-3 Inv-loop μ-loop
 returns-3 c = let a = (c .before .before .before .before .before .args) in
     let l = (c .before .loop) in (
-      fed-all (stateOf (a .s) (a .line .now) (a .words .now)) (a .text .now) (stateOf (l .r) (l .line) (l .words)) (l .i) (l .inv .5) (omega arith),
+      fed-all storing (stateOf (a .s) (a .line .now) (a .words .now)) (a .text .now) (stateOf (l .r) (l .line) (l .words)) (l .i) (l .inv .5) (omega arith),
       record { filled = omega arith; lined = omega arith; within = omega arith; room = omega arith },
     )
 

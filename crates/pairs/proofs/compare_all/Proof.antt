@@ -11,7 +11,7 @@ abbrev Inv-loop : tie.InvT-loop
 Inv-loop text₀ line₀ first₀ second₀ out₀ k₀ text line first second out k = (length text ≡ length text₀) × (length line ≡ length line₀) × (length first ≡ length first₀) × (length second ≡ length second₀) × (length out ≡ length out₀)
 
 abbrev μ-loop : tie.MeasureT-loop
-μ-loop text₀ line₀ first₀ second₀ out₀ k₀ text line first second out k = 21 - k
+μ-loop text₀ line₀ first₀ second₀ out₀ k₀ text line first second out k = 26 - k
 
 loop-holds : tie.Need-loop-holds Inv-loop μ-loop
 loop-holds c = (refl, refl, refl, refl, refl)

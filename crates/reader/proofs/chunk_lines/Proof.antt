@@ -1,12 +1,15 @@
--- `chunk_lines` meets its contract.
-use native.Mathlib.Omega.{arith}
-use Prim.Native.Nat.{_-_, _≤_}
-use mathlib.Core.Path.{_≡_, refl, sym, ap, _∙_}
+-- `chunk_lines` meets its contract: each turn takes the bytes up to the next LF and the LF itself.
+use Rattle.reader.proofs.InPlace.{fed-line}
+use Rattle.lines.proofs.Parts.{no-lf, next-in-rest, length-rest}
+use Rattle.lines.specs.Cutting.{feed}
+use Rattle.lines.proofs.CuttingLaws.{fed-span}
+use Rattle.reader.proofs.ReadingLaws.{begun}
+use Rattle.reader.specs.Reading.{State, rehearsing, stateOf}
+use lib.ListN.{length, take, drop}
 use Rattle.dataway.specs.Crate.{FitCrate}
-use lib.ListN.{length, take, drop, getD}
-use Rattle.reader.specs.Reading.{State, stateOf, feed, step}
-use Rattle.reader.proofs.ReadingLaws.{fed-more, begun}
-use Rattle.reader.proofs.Span.{fed-span, no-lf}
+use mathlib.Core.Path.{_≡_, refl, sym, ap, _∙_}
+use Prim.Native.Nat.{_+_, _-_, _≤_}
+use native.Mathlib.Omega.{arith}
 use Rattle.reader.proofs.chunk_lines.Statement.{statement}
 use Rattle.reader.proofs.chunk_lines.Tie as tie
 
@@ -20,7 +23,7 @@ Inv-loop text line₀ memory₀ out₀ r₀ i₀ line memory out r i =
     × (r .at ≤ length out)
     × FitCrate memory
     × (i ≡ 0 → r .at ≤ r₀ .at)
-    × (stateOf r line memory out ≡ feed (stateOf r₀ line₀ memory₀ out₀) (take i text))
+    × (stateOf r line memory out ≡ feed rehearsing (stateOf r₀ line₀ memory₀ out₀) (take i text))
 
 abbrev μ-loop : tie.MeasureT-loop
 μ-loop text line₀ memory₀ out₀ r₀ i₀ line memory out r i = length text - i
@@ -38,7 +41,7 @@ same-length-3 : tie.Need-same-length-3 Inv-loop μ-loop
 same-length-3 c = omega arith
 
 returns : tie.Need-returns Inv-loop μ-loop
-returns c = let l = c .before .before .loop in (
+returns c = let l = (c .before .before .loop) in (
   l .inv .8,
   (record { filled = omega arith; lined = omega arith; within = omega arith; fit = l .inv .6 }, (l .inv .0, λ h k. omega arith)),
 )
@@ -56,7 +59,7 @@ same-length-6 : tie.Need-same-length-6 Inv-loop μ-loop
 same-length-6 c = omega arith
 
 returns-2 : tie.Need-returns-2 Inv-loop μ-loop
-returns-2 c = let l = c .before .before .before .before .loop in (
+returns-2 c = let l = (c .before .before .before .before .loop) in (
   l .inv .8,
   (record { filled = omega arith; lined = omega arith; within = omega arith; fit = l .inv .6 }, (l .inv .0, λ h k. begun (l .i) _ (l .r .at) (length (l .out)) (l .inv .7) (omega arith) (omega arith))),
 )
@@ -74,7 +77,7 @@ part-take-span-end : tie.Need-part-take-span-end Inv-loop μ-loop
 part-take-span-end c = omega arith
 
 take-span-requires : tie.Need-take-span-requires Inv-loop μ-loop
-take-span-requires c κs = (omega arith, no-lf (c .before .before .before .before .before .before .before .before .before .before .before .before .args .text .now) (c .before .before .before .before .before .before .before .loop .i) (c .before .before .find-lf .result) (c .before .before .find-lf .ensures))
+take-span-requires c κs = (omega arith, no-lf ((c .before .before .before .before .before .before .before .before .before .before .before .before .before .args .text) .now) ((c .before .before .before .before .before .before .before .before .loop .i)) (c .before .before .before .find-lf .result) (c .before .before .before .find-lf .ensures))
 
 same-length-7 : tie.Need-same-length-7 Inv-loop μ-loop
 same-length-7 c = omega arith
@@ -86,35 +89,44 @@ same-length-9 : tie.Need-same-length-9 Inv-loop μ-loop
 same-length-9 c = omega arith
 
 returns-3 : tie.Need-returns-3 Inv-loop μ-loop
-returns-3 c =
-    let a = c .before .before .before .before .before .before .before .before .before .before .before .before .before .before .before .before .args in
-    let l = c .before .before .before .before .before .before .before .before .before .before .before .loop in
-    let e = c .before .before .before .before .before .before .find-lf .result in
+returns-3 c = let a = (c .before .before .before .before .before .before .before .before .before .before .before .before .before .before .before .before .args) in
+    let l = (c .before .before .before .before .before .before .before .before .before .before .before .loop) in
+    let e = (c .before .before .before .before .before .before .find-lf .result) in
     let s₀ = stateOf (a .s) (a .line .now) (a .memory .now) (a .out .now) in (
-      c .before .before .before .take-span .ensures .0 (l .memory) (l .out)
-          ∙ ap (λ (s : State). feed s (take (e - l .i) (drop (l .i) (a .text .now)))) (l .inv .8)
-          ∙ sym (fed-span s₀ (a .text .now) (l .i) e (omega arith)),
+      fed-span rehearsing s₀ (a .text .now) _ (l .i) (l .inv .8) e _ (omega arith) ((c .before .before .take-span .ensures .0) (l .memory) (l .out)),
       (record { filled = omega arith; lined = omega arith; within = omega arith; fit = l .inv .6 }, (omega arith, λ h k. omega arith)),
     )
 
-shared-slice-read-take-byte : tie.Need-shared-slice-read-take-byte Inv-loop μ-loop
-shared-slice-read-take-byte c = omega arith
+sub-take-line : tie.Need-sub-take-line Inv-loop μ-loop
+sub-take-line c = omega arith
 
-take-byte-requires : tie.Need-take-byte-requires Inv-loop μ-loop
-take-byte-requires c κs = record { filled = omega arith; lined = omega arith; room = omega arith; fit = (c .before .before .before .before .before .before .before .before .before .before .before .before .before .before .before .loop .inv .6) }
+part-take-line-start : tie.Need-part-take-line-start Inv-loop μ-loop
+part-take-line-start c = omega arith
+
+part-take-line-end : tie.Need-part-take-line-end Inv-loop μ-loop
+part-take-line-end c = omega arith
+
+sub-take-line-2 : tie.Need-sub-take-line-2 Inv-loop μ-loop
+sub-take-line-2 c = omega arith
+
+take-line-requires : tie.Need-take-line-requires Inv-loop μ-loop
+take-line-requires c κs = (
+  record { filled = omega arith; lined = omega arith; room = omega arith; fit = (c .before .before .before .before .before .before .before .before .before .before .loop .inv .6) },
+  (next-in-rest ((c .before .before .before .before .before .before .before .before .before .before .before .before .before .before .before .args .text) .now) ((c .before .before .before .before .before .before .before .before .before .before .loop .i)) (c .before .before .before .before .before .find-lf .result) (c .before .before .before .before .before .find-lf .ensures), omega (arith, length-rest ((c .before .before .before .before .before .before .before .before .before .before .before .before .before .before .before .args .text) .now) ((c .before .before .before .before .before .before .before .before .before .before .loop .i)))),
+)
 
 add-i : tie.Need-add-i Inv-loop μ-loop
-add-i c = omega (arith, c .before .before .before .before .before .before .before .before .before .before .before .before .before .before .before .before .before .before .before .before .before .before .before .before .before .before .before .good .0 .0)
+add-i c = omega (arith, (c .before .before .before .before .before .before .before .before .before .before .before .before .before .before .before .before .before .before .before .before .before .before .good .0 .0))
 
 loop-less : tie.Need-loop-less Inv-loop μ-loop
 loop-less c = omega arith
 
 loop-again : tie.Need-loop-again Inv-loop μ-loop
-loop-again c =
-    let a = c .before .before .before .before .before .before .before .before .before .before .before .before .before .before .before .before .before .before .before .before .before .before .before .before .before .before .before .args in
-    let l = c .before .before .before .before .before .before .before .before .before .before .before .before .before .before .before .before .before .before .before .before .before .before .loop in
-    let e = c .before .before .before .before .before .before .before .before .before .before .before .before .before .before .before .before .before .find-lf .result in
-    let b = getD (a .text .now) e 0 in
+loop-again c = let a = (c .before .before .before .before .before .before .before .before .before .before .before .before .before .before .before .before .before .before .before .before .before .before .args) in
+    let l = (c .before .before .before .before .before .before .before .before .before .before .before .before .before .before .before .before .before .loop) in
+    let e = (c .before .before .before .before .before .before .before .before .before .before .before .before .find-lf .result) in
+    let d = (c .before .before .before .before .before .before .take-line .ensures) in
+    let rest = take (length (a .text .now) - l .i) (drop (l .i) (a .text .now)) in
     let s₀ = stateOf (a .s) (a .line .now) (a .memory .now) (a .out .now) in (
       omega arith,
       omega arith,
@@ -122,13 +134,11 @@ loop-again c =
       omega arith,
       omega arith,
       omega arith,
-      (c .before .before .before .before .before .before .take-byte .ensures .1 .fit),
+      d .1 .fit,
       λ h. omega arith,
-      c .before .before .before .before .before .before .take-byte .ensures .0
-          ∙ ap (λ (s : State). step s b) (c .before .before .before .before .before .before .before .before .before .before .before .before .before .before .take-span .ensures .0 (l .memory) (l .out)
-          ∙ ap (λ (s : State). feed s (take (e - l .i) (drop (l .i) (a .text .now)))) (l .inv .8)
-          ∙ sym (fed-span s₀ (a .text .now) (l .i) e (omega arith)))
-          ∙ sym (fed-more s₀ (a .text .now) e (omega arith)),
+      d .0
+          ∙ ap (λ (s : State). feed rehearsing s (take (e - l .i + 1) rest)) (l .inv .8)
+          ∙ sym (fed-line s₀ (a .text .now) (l .i) e (omega arith) (omega arith)),
     )
 
 same-length-10 : tie.Need-same-length-10 Inv-loop μ-loop
@@ -141,7 +151,7 @@ same-length-12 : tie.Need-same-length-12 Inv-loop μ-loop
 same-length-12 c = omega arith
 
 returns-4 : tie.Need-returns-4 Inv-loop μ-loop
-returns-4 c = let l = c .before .loop in (
+returns-4 c = let l = (c .before .loop) in (
   l .inv .8,
   (record { filled = omega arith; lined = omega arith; within = omega arith; fit = l .inv .6 }, (l .inv .0, λ h k. omega arith)),
 )
@@ -171,8 +181,11 @@ chunk-lines-spec =
     same-length-8
     same-length-9
     returns-3
-    shared-slice-read-take-byte
-    take-byte-requires
+    sub-take-line
+    part-take-line-start
+    part-take-line-end
+    sub-take-line-2
+    take-line-requires
     add-i
     loop-less
     loop-again

@@ -19,7 +19,7 @@ same-length-2 : tie.Need-same-length-2
 same-length-2 c = search needs
 
 returns : tie.Need-returns
-returns c = ((c .before .before .before .before .end-run-line .ensures .0) ∙ run-answered _ _ (c .before .before .before .before .before .before .before .if1 .taken), (c .before .before .before .before .end-run-line .ensures .1))
+returns c = ((c .before .before .before .before .end-run-line .ensures .0) ∙ run-answered _ (c .before .before .before .before .before .before .before .if1 .taken), (c .before .before .before .before .end-run-line .ensures .1))
 
 end-module-line-requires : tie.Need-end-module-line-requires
 end-module-line-requires c κs = (c .before .before .before .before .before .before .before .pre)
@@ -31,7 +31,7 @@ same-length-4 : tie.Need-same-length-4
 same-length-4 c = search needs
 
 returns-2 : tie.Need-returns-2
-returns-2 c = ((c .before .before .before .before .end-module-line .ensures .0) ∙ module-answered _ _ (c .before .before .before .before .before .before .before .if1 .left), (c .before .before .before .before .end-module-line .ensures .1))
+returns-2 c = ((c .before .before .before .before .end-module-line .ensures .0) ∙ module-answered _ (c .before .before .before .before .before .before .before .if1 .left), (c .before .before .before .before .end-module-line .ensures .1))
 
 pub end-line-spec : {M : Type 1} → statement M
 end-line-spec =

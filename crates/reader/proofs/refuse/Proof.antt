@@ -1,5 +1,6 @@
 -- `refuse` meets its contract.
-use Rattle.reader.proofs.ReadingLaws.{states, put-front, put-within}
+use Rattle.lines.proofs.Parts.{put-front}
+use Rattle.reader.proofs.ReadingLaws.{states, put-within}
 use mathlib.Core.Path.{refl}
 use native.Mathlib.Omega.{arith}
 use borrow.Author.Needs.{needs}

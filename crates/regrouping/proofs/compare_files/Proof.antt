@@ -1,9 +1,11 @@
--- `compare_files` meets its contract: the report of the words is that of the files (`reported`).
-use Rattle.regrouping.proofs.FilesLaws.{stored-count, put-within, reported}
-use lib.Seq.{length-take-le}
-use mathlib.Core.Path.{sym}
-use Prim.Native.Nat.{_*_}
+-- `compare_files` meets its contract: where a list is not whole nothing is told; else the report of the words is that of the files (`reported`).
 use native.Mathlib.Omega.{arith}
+use Prim.Native.Nat.{_*_}
+use mathlib.Core.Logic.{inl, inr}
+use mathlib.Core.Path.{refl, sym, _∙_}
+use lib.Seq.{length-take-le}
+use borrow.Author.Tests.{not-false}
+use Rattle.regrouping.proofs.FilesLaws.{stored-words, stored-count, reported}
 use borrow.Author.Needs.{needs}
 use Rattle.regrouping.proofs.compare_files.Statement.{statement}
 use Rattle.regrouping.proofs.compare_files.Tie as tie
@@ -13,30 +15,6 @@ take-list-requires c κs = search needs
 
 take-list-requires-2 : tie.Need-take-list-requires-2
 take-list-requires-2 c κs = search needs
-
-mul-p : tie.Need-mul-p
-mul-p c = search needs
-
-mul-q : tie.Need-mul-q
-mul-q c = search needs
-
-slice-reshare-prefix-put-report : tie.Need-slice-reshare-prefix-put-report
-slice-reshare-prefix-put-report c = search needs
-
-slice-aggregate-put-report : tie.Need-slice-aggregate-put-report
-slice-aggregate-put-report c = sym (length-take-le (6 * (c .before .before .before .before .before .before .before .before .before .before .before .before .before .before .before .before .before .take-list .result)) ((c .before .before .before .before .before .before .before .before .before .before .before .before .before .before .before .before .before .take-list .last) .1 .1 .1 .0) (omega (arith, (c .before .before .before .before .before .before .before .before .before .before .before .before .before .before .before .before .before .take-list .ensures) .few, (c .before .before .before .before .before .before .before .before .before .before .before .before .before .before .before .before .before .take-list .kept), (c .before .before .before .before .before .before .before .before .before .before .before .before .before .before .before .before .before .before .before .before .before .before .before .before .before .before .before .before .pre .1))))
-
-slice-reshare-prefix-put-report-2 : tie.Need-slice-reshare-prefix-put-report-2
-slice-reshare-prefix-put-report-2 c = search needs
-
-slice-aggregate-put-report-2 : tie.Need-slice-aggregate-put-report-2
-slice-aggregate-put-report-2 c = sym (length-take-le (6 * (c .before .before .before .before .before .before .before .before .take-list2 .result)) ((c .before .before .before .before .before .before .before .before .take-list2 .last) .1 .1 .1 .0) (omega (arith, (c .before .before .before .before .before .before .before .before .take-list2 .ensures) .few, (c .before .before .before .before .before .before .before .before .take-list2 .kept), (c .before .before .before .before .before .before .before .before .before .before .before .before .before .before .before .before .before .before .before .before .before .before .before .before .before .before .before .before .before .pre .2))))
-
-put-report-requires : tie.Need-put-report-requires
-put-report-requires c κs = (stored-count (omega (arith, (c .before .before .before .before .before .before .before .before .before .before .before .before .before .before .before .before .before .before .before .take-list .kept), (c .before .before .before .before .before .before .before .before .before .before .before .before .before .before .before .before .before .before .before .before .before .before .before .before .before .before .before .before .before .before .pre .1))) ((c .before .before .before .before .before .before .before .before .before .before .before .before .before .before .before .before .before .before .before .take-list .ensures)), stored-count (omega (arith, (c .before .before .before .before .before .before .before .before .before .take-list2 .kept), (c .before .before .before .before .before .before .before .before .before .before .before .before .before .before .before .before .before .before .before .before .before .before .before .before .before .before .before .before .before .before .pre .2))) ((c .before .before .before .before .before .before .before .before .before .take-list2 .ensures)), omega (arith, (c .before .before .before .before .before .before .before .before .before .before .before .before .before .before .before .before .before .before .before .before .before .before .before .before .before .before .before .before .before .before .pre .3)))
-
-write-out-requires : tie.Need-write-out-requires
-write-out-requires c κs = put-within ((c .before .before .before .put-report .ensures))
 
 same-length : tie.Need-same-length
 same-length c = search needs
@@ -50,11 +28,78 @@ same-length-3 c = search needs
 same-length-4 : tie.Need-same-length-4
 same-length-4 c = search needs
 
+returns : tie.Need-returns
+returns c = inl refl
+
 same-length-5 : tie.Need-same-length-5
 same-length-5 c = search needs
 
-returns : tie.Need-returns
-returns c = reported ((c .before .before .before .before .before .before .before .before .before .before .before .before .before .before .before .before .before .before .before .before .before .before .before .before .take-list .ensures)) ((c .before .before .before .before .before .before .before .before .before .before .before .before .before .before .take-list2 .ensures)) ((c .before .before .before .before .put-report .ensures))
+same-length-6 : tie.Need-same-length-6
+same-length-6 c = search needs
+
+same-length-7 : tie.Need-same-length-7
+same-length-7 c = search needs
+
+same-length-8 : tie.Need-same-length-8
+same-length-8 c = search needs
+
+returns-2 : tie.Need-returns-2
+returns-2 c = inl refl
+
+mul-p : tie.Need-mul-p
+mul-p c = let old = (c .before .before .before .before .before .before .before .before .before .before .before .before .before .before .before .before .before .before .before .before .before .take-list) in omega (arith, old .ensures (not-false (old .result .whole) (c .before .before .before .if1 .left)) .few)
+
+mul-q : tie.Need-mul-q
+mul-q c = let new = (c .before .before .before .before .before .before .before .before .before .before .before .before .take-list2) in omega (arith, new .ensures (not-false (new .result .whole) (c .before .before .if2 .left)) .few)
+
+slice-reshare-prefix-tell : tie.Need-slice-reshare-prefix-tell
+slice-reshare-prefix-tell c = let old = (c .before .before .before .before .before .before .before .before .before .before .before .before .before .before .before .before .before .before .before .before .before .before .take-list) in
+    let stored = old .ensures (not-false (old .result .whole) (c .before .before .before .before .if1 .left)) in
+    stored-words (omega (arith, old .kept, (c .before .before .before .before .before .before .before .before .before .before .before .before .before .before .before .before .before .before .before .before .before .before .before .before .before .before .before .before .before .before .before .before .before .pre .1))) stored
+
+slice-aggregate-tell : tie.Need-slice-aggregate-tell
+slice-aggregate-tell c = let old = (c .before .before .before .before .before .before .before .before .before .before .before .before .before .before .before .before .before .before .before .before .before .before .before .take-list) in
+    let stored = old .ensures (not-false (old .result .whole) (c .before .before .before .before .before .if1 .left)) in
+    sym (length-take-le (6 * old .result .count) (old .last .1 .1 .1 .0) (stored-words (omega (arith, old .kept, (c .before .before .before .before .before .before .before .before .before .before .before .before .before .before .before .before .before .before .before .before .before .before .before .before .before .before .before .before .before .before .before .before .before .before .pre .1))) stored))
+
+slice-reshare-prefix-tell-2 : tie.Need-slice-reshare-prefix-tell-2
+slice-reshare-prefix-tell-2 c = let new = (c .before .before .before .before .before .before .before .before .before .before .before .before .before .take-list2) in
+    let stored = new .ensures (not-false (new .result .whole) (c .before .before .before .if2 .left)) in
+    stored-words (omega (arith, new .kept, (c .before .before .before .before .before .before .before .before .before .before .before .before .before .before .before .before .before .before .before .before .before .before .before .before .before .before .before .before .before .before .before .before .before .before .pre .2))) stored
+
+slice-aggregate-tell-2 : tie.Need-slice-aggregate-tell-2
+slice-aggregate-tell-2 c = let new = (c .before .before .before .before .before .before .before .before .before .before .before .before .before .before .take-list2) in
+    let stored = new .ensures (not-false (new .result .whole) (c .before .before .before .before .if2 .left)) in
+    sym (length-take-le (6 * new .result .count) (new .last .1 .1 .1 .0) (stored-words (omega (arith, new .kept, (c .before .before .before .before .before .before .before .before .before .before .before .before .before .before .before .before .before .before .before .before .before .before .before .before .before .before .before .before .before .before .before .before .before .before .before .pre .2))) stored))
+
+tell-requires : tie.Need-tell-requires
+tell-requires c κs = let old = (c .before .before .before .before .before .before .before .before .before .before .before .before .before .before .before .before .before .before .before .before .before .before .before .before .before .take-list) in
+    let new = (c .before .before .before .before .before .before .before .before .before .before .before .before .before .before .before .take-list2) in
+    let pre = (c .before .before .before .before .before .before .before .before .before .before .before .before .before .before .before .before .before .before .before .before .before .before .before .before .before .before .before .before .before .before .before .before .before .before .before .before .pre) in (
+      stored-count (omega (arith, old .kept, pre .1)) (old .ensures (not-false (old .result .whole) (c .before .before .before .before .before .before .before .if1 .left))),
+      stored-count (omega (arith, new .kept, pre .2)) (new .ensures (not-false (new .result .whole) (c .before .before .before .before .before .if2 .left))),
+      omega (arith, pre .3),
+    )
+
+same-length-9 : tie.Need-same-length-9
+same-length-9 c = search needs
+
+same-length-10 : tie.Need-same-length-10
+same-length-10 c = search needs
+
+same-length-11 : tie.Need-same-length-11
+same-length-11 c = search needs
+
+same-length-12 : tie.Need-same-length-12
+same-length-12 c = search needs
+
+same-length-13 : tie.Need-same-length-13
+same-length-13 c = search needs
+
+returns-3 : tie.Need-returns-3
+returns-3 c = let old = (c .before .before .before .before .before .before .before .before .before .before .before .before .before .before .before .before .before .before .before .before .before .before .before .before .before .before .before .before .take-list) in
+    let new = (c .before .before .before .before .before .before .before .before .before .before .before .before .before .before .before .before .before .before .take-list2) in
+    inr (reported (old .ensures (not-false (old .result .whole) (c .before .before .before .before .before .before .before .before .before .before .if1 .left))) (new .ensures (not-false (new .result .whole) (c .before .before .before .before .before .before .before .before .if2 .left))) (c .before .before .tell .ensures))
 
 pub compare-files-spec : {M : Type 1} → statement M
 compare-files-spec =
@@ -62,17 +107,26 @@ compare-files-spec =
     (tie.spec
     take-list-requires
     take-list-requires-2
-    mul-p
-    mul-q
-    slice-reshare-prefix-put-report
-    slice-aggregate-put-report
-    slice-reshare-prefix-put-report-2
-    slice-aggregate-put-report-2
-    put-report-requires
-    write-out-requires
     same-length
     same-length-2
     same-length-3
     same-length-4
+    returns
     same-length-5
-    returns)
+    same-length-6
+    same-length-7
+    same-length-8
+    returns-2
+    mul-p
+    mul-q
+    slice-reshare-prefix-tell
+    slice-aggregate-tell
+    slice-reshare-prefix-tell-2
+    slice-aggregate-tell-2
+    tell-requires
+    same-length-9
+    same-length-10
+    same-length-11
+    same-length-12
+    same-length-13
+    returns-3)

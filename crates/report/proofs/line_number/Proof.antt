@@ -1,5 +1,5 @@
 -- `line_number` meets its contract: the two cases of `lineOf`.
-use Rattle.report.proofs.ReportLaws.{line-in, line-past}
+use Rattle.report.proofs.LineLaws.{line-in, line-past}
 use native.Mathlib.Omega.{arith}
 use borrow.Author.Needs.{needs}
 use Rattle.report.proofs.line_number.Statement.{statement}

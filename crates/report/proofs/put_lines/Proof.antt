@@ -1,50 +1,50 @@
--- `put_lines` meets its contract: after each turn the lines of the watches before k are put (`lines-next`).
-use Rattle.report.proofs.ReportLaws.{lines-start, lines-next, lines-all, lines-end}
-use Rattle.report.specs.Report.{PutLines}
-use lib.ListN.{length}
-use mathlib.Core.Path.{_≡_, refl}
-use Prim.Native.Nat.{_-_, _≤_}
+-- `put_lines` meets its contract: no station parts (`lines-refusals`), or the lines of the refusal numbers follow those of the stations (`lines-both`).
 use native.Mathlib.Omega.{arith}
+use Rattle.report.proofs.ReportLaws.{lines-refusals, lines-both}
+use borrow.Author.Needs.{needs}
 use Rattle.report.proofs.put_lines.Statement.{statement}
 use Rattle.report.proofs.put_lines.Tie as tie
 
-abbrev Inv-loop : tie.InvT-loop
-Inv-loop first second from out₀ at₀ k₀ out at k = (from ≤ k) × (k ≤ 35) × (length out ≡ length out₀) × PutLines first second (k - 1) out₀ out at
+put-refusals-requires : tie.Need-put-refusals-requires
+put-refusals-requires c κs =
+    let p = (c .before .before .before .before .before .pre) in
+    ((p .0 .0, p .0 .1, omega arith, omega (arith, p .0 .2)), (omega (arith, (c .before .if1 .taken)), p .1 .0 .1, λ n a b. p .1 .1 n (omega (arith, a)) b))
 
-abbrev μ-loop : tie.MeasureT-loop
-μ-loop first second from out₀ at₀ k₀ out at k = 35 - k
+same-length : tie.Need-same-length
+same-length c = search needs
 
-loop-holds : tie.Need-loop-holds Inv-loop μ-loop
-loop-holds c = (omega arith, (c .before .before .before .pre .1 .1), refl, lines-start ((c .before .before .before .args .first) .now) ((c .before .before .before .args .second) .now) ((c .before .before .before .args .out) .now) ((c .before .before .before .args .from) - 1) ((c .before .before .before .pre .1 .2)))
+returns : tie.Need-returns
+returns c =
+    let none = (c .before .before .before .before .before .before .before .before .pre .1 .1) in
+    lines-refusals (omega (arith, (c .before .before .before .before .if1 .taken))) none (c .before .before .put-refusals .ensures)
 
-put-line-requires : tie.Need-put-line-requires Inv-loop μ-loop
-put-line-requires c κs = ((c .before .before .before .before .before .before .pre .0 .0), (c .before .before .before .before .before .before .pre .0 .1), omega (arith, lines-end ((c .before .before .loop .k)) ((c .before .before .loop .inv .3)), (c .before .before .loop .inv .2), (c .before .before .before .before .before .before .pre .0 .2), (c .before .loop-test .taken)))
+put-runs-requires : tie.Need-put-runs-requires
+put-runs-requires c κs = search needs
 
-add-k : tie.Need-add-k Inv-loop μ-loop
-add-k c = omega arith
+add-put-refusals : tie.Need-add-put-refusals
+add-put-refusals c = search needs
 
-loop-less : tie.Need-loop-less Inv-loop μ-loop
-loop-less c = omega arith
+put-refusals-requires-2 : tie.Need-put-refusals-requires-2
+put-refusals-requires-2 c κs =
+    let p = (c .before .before .before .before .before .before .before .before .before .pre .0) in
+    let few = (c .before .before .before .put-runs .ensures) .short in
+    ((p .0, p .1, few, omega (arith, p .2)), (omega arith, omega arith, λ n a b. absurd (omega (arith, a, b))))
 
-loop-again : tie.Need-loop-again Inv-loop μ-loop
-loop-again c = (omega (arith, (c .before .before .before .before .before .loop .inv .0)), omega (arith, (c .before .before .before .before .loop-test .taken)), omega (arith, (c .before .before .before .before .before .loop .inv .2)), lines-next ((c .before .before .before .before .before .loop .k)) (omega (arith, (c .before .before .before .before .before .loop .inv .0), (c .before .before .before .before .before .before .before .before .before .pre .1 .0))) ((c .before .before .before .before .before .loop .inv .3)) ((c .before .before .put-line .ensures)))
+same-length-2 : tie.Need-same-length-2
+same-length-2 c = search needs
 
-same-length : tie.Need-same-length Inv-loop μ-loop
-same-length c = omega (arith, (c .before .loop .inv .2))
-
-returns : tie.Need-returns Inv-loop μ-loop
-returns c = lines-all ((c .before .loop .k)) (omega (arith, (c .before .loop .inv .1), (c .loop-test .left))) ((c .before .loop .inv .3))
+returns-2 : tie.Need-returns-2
+returns-2 c = lines-both (c .before .before .before .before .before .before .put-runs .ensures) (c .before .before .put-refusals2 .ensures)
 
 pub put-lines-spec : {M : Type 1} → statement M
 put-lines-spec =
     tie.close
     (tie.spec
-    Inv-loop
-    μ-loop
-    loop-holds
-    put-line-requires
-    add-k
-    loop-less
-    loop-again
+    put-refusals-requires
     same-length
-    returns)
+    returns
+    put-runs-requires
+    add-put-refusals
+    put-refusals-requires-2
+    same-length-2
+    returns-2)

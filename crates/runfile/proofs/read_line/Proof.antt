@@ -1,59 +1,27 @@
--- `read_line` meets its contract: its calls of `or_else` are those of `readLine`, and every answer of `readLine` claims what `Reads` says.
-use mathlib.Core.Path.{_≡_}
+-- `read_line` meets its contract: at each letter the form that it tries is the one that `readLine` reads, and every answer of `readLine` claims
+-- what `Reads` says.
+use mathlib.Core.Path.{_≡_, _∙_}
+use mathlib.Core.List.{List}
+use Prim.Native.Nat.{ℕ}
 use borrow.Author.Needs.{needs}
+use Rattle.runfile.specs.Lines.{Reads}
 use Rattle.runfile.specs.Read.{readLine}
+use Rattle.step.specs.declared.Reading.{Reading}
 use Rattle.runfile.proofs.Found.{either}
+use Rattle.runfile.proofs.Letters.{letter-n, letter-f, letter-z, letter-c, letter-i, letter-l, letter-s, letter-r, no-letter, other-letter}
 use Rattle.runfile.proofs.RunLines.{reads-of}
 use Rattle.runfile.proofs.read_line.Statement.{statement}
 use Rattle.runfile.proofs.read_line.Tie as tie
 
-read-scan-requires : tie.Need-read-scan-requires
-read-scan-requires c κs = search needs
+-- the contract's second claim follows from its first
+both : (l : List ℕ) (r : Reading) → r ≡ readLine l → (r ≡ readLine l) × Reads l r
+both l r e = (e, reads-of l r e)
 
-read-repeat-requires : tie.Need-read-repeat-requires
-read-repeat-requires c κs = search needs
+returns : tie.Need-returns
+returns c = both (c .before .before .args .line .now) _ (no-letter (c .before .before .args .line .now) (c .if1 .taken))
 
-read-stop-requires : tie.Need-read-stop-requires
-read-stop-requires c κs = search needs
-
-or-else-requires : tie.Need-or-else-requires
-or-else-requires c κs = search needs
-
-or-else-requires-2 : tie.Need-or-else-requires-2
-or-else-requires-2 c κs = search needs
-
-slice-aggregate-read-bare : tie.Need-slice-aggregate-read-bare
-slice-aggregate-read-bare c = search needs
-
-read-bare-requires : tie.Need-read-bare-requires
-read-bare-requires c κs = search needs
-
-or-else-requires-3 : tie.Need-or-else-requires-3
-or-else-requires-3 c κs = search needs
-
-read-inhibit-requires : tie.Need-read-inhibit-requires
-read-inhibit-requires c κs = search needs
-
-or-else-requires-4 : tie.Need-or-else-requires-4
-or-else-requires-4 c κs = search needs
-
-slice-aggregate-read-bare-2 : tie.Need-slice-aggregate-read-bare-2
-slice-aggregate-read-bare-2 c = search needs
-
-read-bare-requires-2 : tie.Need-read-bare-requires-2
-read-bare-requires-2 c κs = search needs
-
-or-else-requires-5 : tie.Need-or-else-requires-5
-or-else-requires-5 c κs = search needs
-
-slice-aggregate-read-bare-3 : tie.Need-slice-aggregate-read-bare-3
-slice-aggregate-read-bare-3 c = search needs
-
-read-bare-requires-3 : tie.Need-read-bare-requires-3
-read-bare-requires-3 c κs = search needs
-
-or-else-requires-6 : tie.Need-or-else-requires-6
-or-else-requires-6 c κs = search needs
+shared-slice-read-match : tie.Need-shared-slice-read-match
+shared-slice-read-match c = search needs
 
 read-naf-requires : tie.Need-read-naf-requires
 read-naf-requires c κs = search needs
@@ -61,57 +29,91 @@ read-naf-requires c κs = search needs
 read-front-requires : tie.Need-read-front-requires
 read-front-requires c κs = search needs
 
-or-else-requires-7 : tie.Need-or-else-requires-7
-or-else-requires-7 c κs = search needs
+slice-aggregate-read-bare : tie.Need-slice-aggregate-read-bare
+slice-aggregate-read-bare c = search needs
 
-or-else-requires-8 : tie.Need-or-else-requires-8
-or-else-requires-8 c κs = search needs
+read-bare-requires : tie.Need-read-bare-requires
+read-bare-requires c κs = search needs
 
-returns : tie.Need-returns
-unfolding readLine
-returns c =
-    let front = c .before .before in
-    let naf = front .before in
-    let z = naf .before .before in
-    let c′ = z .before .before .before in
-    let i = c′ .before .before .before in
-    let lam = i .before .before in
-    let stop = lam .before .before .before .before in
-    let repeat = stop .before in
-    let scan = repeat .before in
-    let line = scan .before .before .args .line .now in
-    let two = either (repeat .read-repeat .ensures) (stop .read-stop .ensures) (lam .before .before .before .or-else .ensures) in
-    let three = either (scan .read-scan .ensures) two (lam .before .before .or-else2 .ensures) in
-    let four = either (lam .read-bare .ensures) three (i .before .or-else3 .ensures) in
-    let five = either (i .read-inhibit .ensures) four (c′ .before .before .or-else4 .ensures) in
-    let six = either (c′ .read-bare2 .ensures) five (z .before .before .or-else5 .ensures) in
-    let seven = either (z .read-bare3 .ensures) six (naf .before .or-else6 .ensures) in
-    let eight = either (front .read-front .ensures) seven (c .before .or-else7 .ensures) in
-    let value : _ ≡ readLine line = either (naf .read-naf .ensures) eight (c .or-else8 .ensures) in
-    (value, reads-of line _ value)
+slice-aggregate-read-bare-2 : tie.Need-slice-aggregate-read-bare-2
+slice-aggregate-read-bare-2 c = search needs
+
+read-bare-requires-2 : tie.Need-read-bare-requires-2
+read-bare-requires-2 c κs = search needs
+
+read-inhibit-requires : tie.Need-read-inhibit-requires
+read-inhibit-requires c κs = search needs
+
+slice-aggregate-read-bare-3 : tie.Need-slice-aggregate-read-bare-3
+slice-aggregate-read-bare-3 c = search needs
+
+read-bare-requires-3 : tie.Need-read-bare-requires-3
+read-bare-requires-3 c κs = search needs
+
+read-scan-requires : tie.Need-read-scan-requires
+read-scan-requires c κs = search needs
+
+read-stop-requires : tie.Need-read-stop-requires
+read-stop-requires c κs = search needs
+
+or-else-requires : tie.Need-or-else-requires
+or-else-requires c κs = search needs
+
+read-repeat-requires : tie.Need-read-repeat-requires
+read-repeat-requires c κs = search needs
+
+returns-2 : tie.Need-returns-2
+returns-2 c = both (c .before .before .before .before .before .args .line .now) _ (c .read-naf .ensures ∙ letter-n (c .before .before .before .before .before .args .line .now) (c .before .match .keys1))
+
+returns-3 : tie.Need-returns-3
+returns-3 c = both (c .before .before .before .before .before .args .line .now) _ (c .read-front .ensures ∙ letter-f (c .before .before .before .before .before .args .line .now) (c .before .match .keys2))
+
+returns-4 : tie.Need-returns-4
+returns-4 c = both (c .before .before .before .before .before .before .args .line .now) _ (c .read-bare .ensures ∙ letter-z (c .before .before .before .before .before .before .args .line .now) (c .before .before .match .keys3))
+
+returns-5 : tie.Need-returns-5
+returns-5 c = both (c .before .before .before .before .before .before .args .line .now) _ (c .read-bare2 .ensures ∙ letter-c (c .before .before .before .before .before .before .args .line .now) (c .before .before .match .keys4))
+
+returns-6 : tie.Need-returns-6
+returns-6 c = both (c .before .before .before .before .before .args .line .now) _ (c .read-inhibit .ensures ∙ letter-i (c .before .before .before .before .before .args .line .now) (c .before .match .keys5))
+
+returns-7 : tie.Need-returns-7
+returns-7 c = both (c .before .before .before .before .before .before .args .line .now) _ (c .read-bare3 .ensures ∙ letter-l (c .before .before .before .before .before .before .args .line .now) (c .before .before .match .keys6))
+
+returns-8 : tie.Need-returns-8
+returns-8 c = both (c .before .before .before .before .before .before .before .args .line .now) _ (either (c .before .before .read-scan .ensures) (c .before .read-stop .ensures) (c .or-else .ensures) ∙ letter-s (c .before .before .before .before .before .before .before .args .line .now) (c .before .before .before .match .keys7))
+
+returns-9 : tie.Need-returns-9
+returns-9 c = both (c .before .before .before .before .before .args .line .now) _ (c .read-repeat .ensures ∙ letter-r (c .before .before .before .before .before .args .line .now) (c .before .match .keys8))
+
+returns-10 : tie.Need-returns-10
+returns-10 c = let m = c .match .rest in both (c .before .before .before .before .args .line .now) _ (other-letter (c .before .before .before .before .args .line .now) (m .0 .0 .0 .0 .0 .0 .0 .1) (m .0 .0 .0 .0 .0 .0 .1) (m .0 .0 .0 .0 .0 .1) (m .0 .0 .0 .0 .1) (m .0 .0 .0 .1) (m .0 .0 .1) (m .0 .1) (m .1))
 
 pub read-line-spec : {M : Type 1} → statement M
 read-line-spec =
     tie.close
     (tie.spec
-    read-scan-requires
-    read-repeat-requires
-    read-stop-requires
-    or-else-requires
-    or-else-requires-2
-    slice-aggregate-read-bare
-    read-bare-requires
-    or-else-requires-3
-    read-inhibit-requires
-    or-else-requires-4
-    slice-aggregate-read-bare-2
-    read-bare-requires-2
-    or-else-requires-5
-    slice-aggregate-read-bare-3
-    read-bare-requires-3
-    or-else-requires-6
+    returns
+    shared-slice-read-match
     read-naf-requires
     read-front-requires
-    or-else-requires-7
-    or-else-requires-8
-    returns)
+    slice-aggregate-read-bare
+    read-bare-requires
+    slice-aggregate-read-bare-2
+    read-bare-requires-2
+    read-inhibit-requires
+    slice-aggregate-read-bare-3
+    read-bare-requires-3
+    read-scan-requires
+    read-stop-requires
+    or-else-requires
+    read-repeat-requires
+    returns-2
+    returns-3
+    returns-4
+    returns-5
+    returns-6
+    returns-7
+    returns-8
+    returns-9
+    returns-10)

@@ -3,27 +3,18 @@ use Prim.Native.Nat.{ℕ}
 use mathlib.Core.Path.{ap}
 use native.Mathlib.Omega.{arith}
 use borrow.Author.Needs.{needs}
-use Rattle.sheet.proofs.Room.{field-room, of-text, of-answer}
-use Rattle.sheet.specs.Answers.{body}
-use Rattle.text.proofs.Decimal.{length-ten}
 use Rattle.text.specs.Text.{field}
+use Rattle.text.proofs.Decimal.{length-ten}
+use Rattle.sheet.specs.Answers.{body}
+use Rattle.sheet.proofs.Room.{field-room, of-text, of-answer}
 use Rattle.sheet.proofs.put_body.Statement.{statement}
 use Rattle.sheet.proofs.put_body.Tie as tie
 
 enum-known-answer : tie.Need-enum-known-answer
 enum-known-answer c = search needs
 
-slice-aggregate-put-three : tie.Need-slice-aggregate-put-three
-slice-aggregate-put-three c = search needs
-
-slice-aggregate-put-three-2 : tie.Need-slice-aggregate-put-three-2
-slice-aggregate-put-three-2 c = search needs
-
-slice-aggregate-put-three-3 : tie.Need-slice-aggregate-put-three-3
-slice-aggregate-put-three-3 c = search needs
-
-put-three-requires : tie.Need-put-three-requires
-put-three-requires c κs = search needs
+put-reply-requires : tie.Need-put-reply-requires
+put-reply-requires c κs = search needs
 
 enum-known-answer-2 : tie.Need-enum-known-answer-2
 enum-known-answer-2 c = search needs
@@ -46,32 +37,14 @@ put-bytes-requires c κs = search needs
 enum-known-answer-3 : tie.Need-enum-known-answer-3
 enum-known-answer-3 c = search needs
 
-slice-aggregate-put-three-4 : tie.Need-slice-aggregate-put-three-4
-slice-aggregate-put-three-4 c = search needs
-
-slice-aggregate-put-three-5 : tie.Need-slice-aggregate-put-three-5
-slice-aggregate-put-three-5 c = search needs
-
-slice-aggregate-put-three-6 : tie.Need-slice-aggregate-put-three-6
-slice-aggregate-put-three-6 c = search needs
-
-put-three-requires-2 : tie.Need-put-three-requires-2
-put-three-requires-2 c κs = search needs
+put-reading-requires : tie.Need-put-reading-requires
+put-reading-requires c κs = search needs
 
 enum-known-answer-4 : tie.Need-enum-known-answer-4
 enum-known-answer-4 c = search needs
 
-slice-aggregate-put-three-7 : tie.Need-slice-aggregate-put-three-7
-slice-aggregate-put-three-7 c = search needs
-
-slice-aggregate-put-three-8 : tie.Need-slice-aggregate-put-three-8
-slice-aggregate-put-three-8 c = search needs
-
-slice-aggregate-put-three-9 : tie.Need-slice-aggregate-put-three-9
-slice-aggregate-put-three-9 c = search needs
-
-put-three-requires-3 : tie.Need-put-three-requires-3
-put-three-requires-3 c κs = search needs
+put-transfer-requires : tie.Need-put-transfer-requires
+put-transfer-requires c κs = search needs
 
 enum-known-answer-5 : tie.Need-enum-known-answer-5
 enum-known-answer-5 c = search needs
@@ -89,58 +62,48 @@ same-length : tie.Need-same-length
 same-length c = search needs
 
 returns : tie.Need-returns
-unfolding body
-returns c = of-answer (c .before .before .before .before .before .before .before .before .answer .given .1)
-    (c .before .before .put-three .ensures)
+returns c = of-answer ((c .before .before .before .before .before .answer .given) .1) (c .before .before .put-reply .ensures)
 
 same-length-2 : tie.Need-same-length-2
 same-length-2 c = search needs
 
 returns-2 : tie.Need-returns-2
 unfolding body
-returns-2 c = of-answer (c .before .before .before .before .before .before .answer2 .given .1) (c .before .before .put-field .ensures)
+returns-2 c = of-answer ((c .before .before .before .before .before .before .answer2 .given) .1) (c .before .before .put-field .ensures)
 
 same-length-3 : tie.Need-same-length-3
 same-length-3 c = search needs
 
 returns-3 : tie.Need-returns-3
 unfolding body
-returns-3 c = of-answer (c .before .before .before .before .before .enum-told .given .1) (c .before .before .put-bytes .ensures)
+returns-3 c = of-answer ((c .before .before .before .before .before .enum-told .given) .1) (c .before .before .put-bytes .ensures)
 
 same-length-4 : tie.Need-same-length-4
 same-length-4 c = search needs
 
 returns-4 : tie.Need-returns-4
-unfolding body
-returns-4 c = of-answer (c .before .before .before .before .before .before .before .before .answer3 .given .1)
-    (c .before .before .put-three2 .ensures)
+returns-4 c = of-answer ((c .before .before .before .before .before .answer3 .given) .1) (c .before .before .put-reading .ensures)
 
 same-length-5 : tie.Need-same-length-5
 same-length-5 c = search needs
 
 returns-5 : tie.Need-returns-5
-unfolding body
-returns-5 c = of-answer (c .before .before .before .before .before .before .before .before .answer4 .given .1)
-    (c .before .before .put-three3 .ensures)
+returns-5 c = of-answer ((c .before .before .before .before .before .answer4 .given) .1) (c .before .before .put-transfer .ensures)
 
 same-length-6 : tie.Need-same-length-6
 same-length-6 c = search needs
 
 returns-6 : tie.Need-returns-6
 unfolding body
-returns-6 c = of-answer (c .before .before .before .before .before .before .before .answer5 .given .1)
-    (of-text (ap (λ (n : ℕ). field " refused=" n) (c .before .before .before .refusal-number .ensures))
-    (c .before .before .put-field2 .ensures))
+returns-6 c = of-answer ((c .before .before .before .before .before .before .before .answer5 .given) .1)
+    (of-text (ap (λ (n : ℕ). field " refused=" n) (c .before .before .before .refusal-number .ensures)) (c .before .before .put-field2 .ensures))
 
 pub put-body-spec : {M : Type 1} → statement M
 put-body-spec =
     tie.close
     (tie.spec
     enum-known-answer
-    slice-aggregate-put-three
-    slice-aggregate-put-three-2
-    slice-aggregate-put-three-3
-    put-three-requires
+    put-reply-requires
     enum-known-answer-2
     slice-aggregate-put-field
     put-field-requires
@@ -148,15 +111,9 @@ put-body-spec =
     slice-aggregate-put-bytes
     put-bytes-requires
     enum-known-answer-3
-    slice-aggregate-put-three-4
-    slice-aggregate-put-three-5
-    slice-aggregate-put-three-6
-    put-three-requires-2
+    put-reading-requires
     enum-known-answer-4
-    slice-aggregate-put-three-7
-    slice-aggregate-put-three-8
-    slice-aggregate-put-three-9
-    put-three-requires-3
+    put-transfer-requires
     enum-known-answer-5
     slice-aggregate-put-field-2
     refusal-number-requires

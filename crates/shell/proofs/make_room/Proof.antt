@@ -13,13 +13,19 @@ sub-if1 : tie.Need-sub-if1
 sub-if1 c = search needs
 
 returns : tie.Need-returns
-returns c = (search needs, λ e. took-none (stateOf ((c .before .before .before .before .args .s)) ((c .before .before .before .before .args .line) .now) ((c .before .before .before .before .args .memory) .now) ((c .before .before .before .before .args .out) .now)))
+returns c = let entry = (c .before .before .before .before .args) in
+    (search needs, λ e. took-none (stateOf (entry .s) (entry .line .now) (entry .memory .now) (entry .out .now)))
+
+slice-aggregate-write-out : tie.Need-slice-aggregate-write-out
+slice-aggregate-write-out c = search needs
 
 write-out-requires : tie.Need-write-out-requires
 write-out-requires c κs = search needs
 
 returns-2 : tie.Need-returns-2
-returns-2 c = (search needs, λ e. record { sent = take ((c .before .before .before .before .before .args .s) .at) ((c .before .before .before .before .before .args .out) .now); same = states refl refl refl refl refl (sym (append-nil (take ((c .before .before .before .before .before .args .s) .at) ((c .before .before .before .before .before .args .out) .now)))) })
+returns-2 c = let entry = (c .before .before .before .before .before .before .args) in
+    let sent = take (entry .s .at) (entry .out .now) in
+    (search needs, λ e. record { sent = sent; same = states refl refl refl refl refl (sym (append-nil sent)) })
 
 pub make-room-spec : {M : Type 1} → statement M
-make-room-spec = tie.close (tie.spec sub-if1 returns write-out-requires returns-2)
+make-room-spec = tie.close (tie.spec sub-if1 returns slice-aggregate-write-out write-out-requires returns-2)

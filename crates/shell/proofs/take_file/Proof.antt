@@ -1,15 +1,19 @@
 -- `take_file` meets its contract: the bytes that were read, and then the file's end (`closed-both`).
-use Rattle.shell.proofs.HandedLaws.{failed, closed-both}
+use native.Mathlib.Omega.{arith}
 use borrow.Author.Tests.{not-false}
+use Rattle.shell.proofs.HandedLaws.{failed, closed-both}
 use borrow.Author.Needs.{needs}
 use Rattle.shell.proofs.take_file.Statement.{statement}
 use Rattle.shell.proofs.take_file.Tie as tie
 
-open-read-requires : tie.Need-open-read-requires
-open-read-requires c κs = search needs
+slice-aggregate-open : tie.Need-slice-aggregate-open
+slice-aggregate-open c = search needs
 
-say-unopened-requires : tie.Need-say-unopened-requires
-say-unopened-requires c κs = search needs
+slice-aggregate-open-2 : tie.Need-slice-aggregate-open-2
+slice-aggregate-open-2 c = search needs
+
+open-requires : tie.Need-open-requires
+open-requires c κs = search needs
 
 end-file-requires : tie.Need-end-file-requires
 end-file-requires c κs = search needs
@@ -45,10 +49,11 @@ same-length-7 : tie.Need-same-length-7
 same-length-7 c = search needs
 
 returns-2 : tie.Need-returns-2
-returns-2 c = ((c .before .before .before .before .before .before .before .before .before .before .before .take-open .ensures .0), failed ((c .before .before .before .before .before .before .before .before .before .before .before .take-open .result) .ok) ((c .if2 .taken)))
+returns-2 c = let read = (c .before .before .before .before .before .before .before .before .before .before .before .take-open) in
+    (read .ensures .0, failed (read .result .ok) (c .if2 .taken))
 
 end-file-requires-2 : tie.Need-end-file-requires-2
-end-file-requires-2 c κs = search needs
+end-file-requires-2 c κs = ((c .before .before .before .before .before .before .before .before .before .before .before .before .before .before .take-open .ensures .0), omega (arith, (c .before .before .before .before .before .before .before .before .before .before .before .before .before .before .before .before .before .before .before .before .before .before .before .before .before .before .before .before .pre .1), (c .before .before .before .before .before .before .before .before .before .before .before .before .before .before .take-open .kept)))
 
 same-length-8 : tie.Need-same-length-8
 same-length-8 c = search needs
@@ -63,14 +68,17 @@ same-length-11 : tie.Need-same-length-11
 same-length-11 c = search needs
 
 returns-3 : tie.Need-returns-3
-returns-3 c = ((c .before .before .before .before .end-file2 .ensures .0), λ e. closed-both ((c .before .before .before .before .before .before .before .before .before .before .before .before .before .before .before .before .before .before .before .take-open .ensures .1) (not-false ((c .before .before .before .before .before .before .before .before .before .before .before .before .before .before .before .before .before .before .before .take-open .result) .ok) ((c .before .before .before .before .before .before .before .before .if2 .left)))) ((c .before .before .before .before .end-file2 .ensures .1) e))
+returns-3 c = let read = (c .before .before .before .before .before .before .before .before .before .before .before .before .before .before .before .before .before .before .before .take-open) in
+    let end = (c .before .before .before .before .end-file2) in
+    (end .ensures .0, λ e. closed-both (read .ensures .1 (not-false (read .result .ok) (c .before .before .before .before .before .before .before .before .if2 .left))) (end .ensures .1 e))
 
 pub take-file-spec : {M : Type 1} → statement M
 take-file-spec =
     tie.close
     (tie.spec
-    open-read-requires
-    say-unopened-requires
+    slice-aggregate-open
+    slice-aggregate-open-2
+    open-requires
     end-file-requires
     same-length
     same-length-2

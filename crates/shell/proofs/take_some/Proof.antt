@@ -1,39 +1,45 @@
 -- `take_some` meets its contract: nothing was read, or all of what was read is taken.
-use Rattle.shell.proofs.HandedLaws.{reached-none, reached-one}
+use mathlib.Core.Path.{sym}
+use lib.Seq.{length-take-le}
 use Rattle.reader.specs.Reading.{stateOf}
+use Rattle.shell.proofs.HandedLaws.{reached-none, reached-one}
 use borrow.Author.Needs.{needs}
 use Rattle.shell.proofs.take_some.Statement.{statement}
 use Rattle.shell.proofs.take_some.Tie as tie
 
-read-requires : tie.Need-read-requires
-read-requires c κs = search needs
+slice-aggregate-read-some : tie.Need-slice-aggregate-read-some
+slice-aggregate-read-some c = search needs
 
-say-unread-requires : tie.Need-say-unread-requires
-say-unread-requires c κs = search needs
+read-some-requires : tie.Need-read-some-requires
+read-some-requires c κs = search needs
 
 same-length : tie.Need-same-length
 same-length c = search needs
 
 returns : tie.Need-returns
-returns c = ((c .before .before .before .before .before .before .before .before .before .before .before .pre .0), λ e. reached-none (stateOf ((c .before .before .before .before .before .before .before .before .before .before .before .args .s)) ((c .before .before .before .before .before .before .before .before .before .before .before .args .line) .now) ((c .before .before .before .before .before .before .before .before .before .before .before .args .memory) .now) ((c .before .before .before .before .before .before .before .before .before .before .before .args .out) .now)))
-
-same-length-2 : tie.Need-same-length-2
-same-length-2 c = search needs
-
-returns-2 : tie.Need-returns-2
-returns-2 c = ((c .before .before .before .before .before .before .before .before .before .before .before .pre .0), λ e. reached-none (stateOf ((c .before .before .before .before .before .before .before .before .before .before .before .args .s)) ((c .before .before .before .before .before .before .before .before .before .before .before .args .line) .now) ((c .before .before .before .before .before .before .before .before .before .before .before .args .memory) .now) ((c .before .before .before .before .before .before .before .before .before .before .before .args .out) .now)))
-
-count-requires : tie.Need-count-requires
-count-requires c κs = search needs
+returns c = let entry = (c .before .before .before .before .before .before .before .before .before .before .before .args) in
+    ((c .before .before .before .before .before .before .before .before .before .before .before .pre .0), λ e. reached-none (stateOf (entry .s) (entry .line .now) (entry .memory .now) (entry .out .now)))
 
 slice-reshare-prefix-take-text : tie.Need-slice-reshare-prefix-take-text
 slice-reshare-prefix-take-text c = search needs
 
 slice-aggregate-take-text : tie.Need-slice-aggregate-take-text
-slice-aggregate-take-text c = search needs
+slice-aggregate-take-text c = let read = (c .before .before .before .before .read-some) in sym (length-take-le (read .result .count) (read .last .1 .1 .0) (read .ensures))
 
 take-text-requires : tie.Need-take-text-requires
 take-text-requires c κs = search needs
+
+slice-reshare-prefix-goes-on : tie.Need-slice-reshare-prefix-goes-on
+slice-reshare-prefix-goes-on c = search needs
+
+slice-aggregate-goes-on : tie.Need-slice-aggregate-goes-on
+slice-aggregate-goes-on c = let read = (c .before .before .before .before .before .before .before .before .before .before .before .before .before .before .before .before .read-some) in sym (length-take-le (read .result .count) (read .last .1 .1 .0) (read .ensures))
+
+goes-on-requires : tie.Need-goes-on-requires
+goes-on-requires c κs = search needs
+
+same-length-2 : tie.Need-same-length-2
+same-length-2 c = search needs
 
 same-length-3 : tie.Need-same-length-3
 same-length-3 c = search needs
@@ -44,48 +50,26 @@ same-length-4 c = search needs
 same-length-5 : tie.Need-same-length-5
 same-length-5 c = search needs
 
-same-length-6 : tie.Need-same-length-6
-same-length-6 c = search needs
-
-returns-3 : tie.Need-returns-3
-returns-3 c = ((c .before .before .before .before .before .before .before .before .take-text .ensures .0), λ e. reached-one ((c .before .before .before .before .before .before .before .before .take-text .ensures .1) e))
-
-same-length-7 : tie.Need-same-length-7
-same-length-7 c = search needs
-
-same-length-8 : tie.Need-same-length-8
-same-length-8 c = search needs
-
-same-length-9 : tie.Need-same-length-9
-same-length-9 c = search needs
-
-same-length-10 : tie.Need-same-length-10
-same-length-10 c = search needs
-
-returns-4 : tie.Need-returns-4
-returns-4 c = ((c .before .before .before .before .before .before .before .before .take-text .ensures .0), λ e. reached-one ((c .before .before .before .before .before .before .before .before .take-text .ensures .1) e))
+returns-2 : tie.Need-returns-2
+returns-2 c = let taken = (c .before .before .before .before .before .before .before .before .before .take-text) in
+    (taken .ensures .0, λ e. reached-one (taken .ensures .1 e))
 
 pub take-some-spec : {M : Type 1} → statement M
 take-some-spec =
     tie.close
     (tie.spec
-    read-requires
-    say-unread-requires
+    slice-aggregate-read-some
+    read-some-requires
     same-length
     returns
-    same-length-2
-    returns-2
-    count-requires
     slice-reshare-prefix-take-text
     slice-aggregate-take-text
     take-text-requires
+    slice-reshare-prefix-goes-on
+    slice-aggregate-goes-on
+    goes-on-requires
+    same-length-2
     same-length-3
     same-length-4
     same-length-5
-    same-length-6
-    returns-3
-    same-length-7
-    same-length-8
-    same-length-9
-    same-length-10
-    returns-4)
+    returns-2)

@@ -1,16 +1,24 @@
--- `write_out` meets its contract: the bytes that it lends on lie within the buffer.
-use lib.Seq.{length-take-le}
+-- `write_out` meets its contract: the bytes that are written lie within the buffer.
 use mathlib.Core.Path.{sym}
-use native.Mathlib.Omega.{arith}
+use lib.Seq.{length-take-le}
 use borrow.Author.Needs.{needs}
 use Rattle.shell.proofs.write_out.Statement.{statement}
 use Rattle.shell.proofs.write_out.Tie as tie
 
 slice-aggregate-write-all : tie.Need-slice-aggregate-write-all
-slice-aggregate-write-all c = sym (length-take-le ((c .before .before .args .at)) ((c .before .before .args .out) .now) (omega arith))
+slice-aggregate-write-all c = sym (length-take-le (c .before .before .before .args .at) (c .before .before .before .args .out .now) (c .before .before .before .pre))
 
 write-all-requires : tie.Need-write-all-requires
 write-all-requires c κs = search needs
+
+slice-aggregate-write-all-2 : tie.Need-slice-aggregate-write-all-2
+slice-aggregate-write-all-2 c = search needs
+
+write-all-requires-2 : tie.Need-write-all-requires-2
+write-all-requires-2 c κs = search needs
+
+write-all-requires-3 : tie.Need-write-all-requires-3
+write-all-requires-3 c κs = search needs
 
 slice-aggregate-fail : tie.Need-slice-aggregate-fail
 slice-aggregate-fail c = search needs
@@ -30,6 +38,9 @@ write-out-spec =
     (tie.spec
     slice-aggregate-write-all
     write-all-requires
+    slice-aggregate-write-all-2
+    write-all-requires-2
+    write-all-requires-3
     slice-aggregate-fail
     fail-requires
     returns

@@ -1,59 +1,88 @@
--- `equal` meets its contract: equal words are equal steps (`words-same`); else the words of what the two steps count as decide.
+-- `equal` meets its contract: equal words are equal steps (`words-equal`); else what the two steps count as decides.
 -- Assumes nothing.
-use mathlib.Core.Path.{ap, ap₂, _∙_}
+use Rattle.verdict.proofs.EqualLaws.{tells-true, words-equal, reading-told}
 use borrow.Author.Needs.{needs}
-use Rattle.verdict.specs.Equal.{plainOf, same}
-use Rattle.verdict.proofs.CountedLaws.{words-same}
 use Rattle.verdict.proofs.equal.Statement.{statement}
 use Rattle.verdict.proofs.equal.Tie as tie
 
-words-at-requires : tie.Need-words-at-requires
-words-at-requires c κs = search needs
+mul-at : tie.Need-mul-at
+mul-at c = search needs
 
-words-at-requires-2 : tie.Need-words-at-requires-2
-words-at-requires-2 c κs = search needs
+add-end : tie.Need-add-end
+add-end c = search needs
 
-same-requires : tie.Need-same-requires
-same-requires c κs = search needs
+mul-from : tie.Need-mul-from
+mul-from c = search needs
+
+add-to : tie.Need-add-to
+add-to c = search needs
+
+mul-same-words : tie.Need-mul-same-words
+mul-same-words c = search needs
+
+sub-same-words : tie.Need-sub-same-words
+sub-same-words c = search needs
+
+part-same-words-start : tie.Need-part-same-words-start
+part-same-words-start c = search needs
+
+part-same-words-end : tie.Need-part-same-words-end
+part-same-words-end c = search needs
+
+mul-same-words-2 : tie.Need-mul-same-words-2
+mul-same-words-2 c = search needs
+
+sub-same-words-2 : tie.Need-sub-same-words-2
+sub-same-words-2 c = search needs
+
+part-same-words-start-2 : tie.Need-part-same-words-start-2
+part-same-words-start-2 c = search needs
+
+part-same-words-end-2 : tie.Need-part-same-words-end-2
+part-same-words-end-2 c = search needs
+
+same-words-requires : tie.Need-same-words-requires
+same-words-requires c κs = search needs
 
 returns : tie.Need-returns
-returns c = words-same (c .before .before .before .before .before .before .before .args .first .now)
-    (c .before .before .before .before .before .before .before .args .i)
-    (c .before .before .before .before .before .before .before .args .second .now)
-    (c .before .before .before .before .before .before .before .args .j) _ _ _ (c .before .before .before .words-at .ensures)
-    (c .before .before .words-at2 .ensures) (c .before .same .ensures) (c .if1 .taken)
+returns c =
+    let a = c .before .before .before .before .before .before .before .args in
+    tells-true _ (words-equal (a .first .now) (a .i) (a .second .now) (a .j) (c .before .same-words .ensures .holds (c .if1 .taken)))
 
 step-at-requires : tie.Need-step-at-requires
 step-at-requires c κs = search needs
 
-plain-of-requires : tie.Need-plain-of-requires
-plain-of-requires c κs = search needs
-
 step-at-requires-2 : tie.Need-step-at-requires-2
 step-at-requires-2 c κs = search needs
 
-plain-of-requires-2 : tie.Need-plain-of-requires-2
-plain-of-requires-2 c κs = search needs
-
-same-requires-2 : tie.Need-same-requires-2
-same-requires-2 c κs = search needs
+same-reading-requires : tie.Need-same-reading-requires
+same-reading-requires c κs = search needs
 
 returns-2 : tie.Need-returns-2
-returns-2 c = (c .same2 .ensures) ∙ ap₂ same
-    ((c .before .before .before .plain-of .ensures) ∙ ap plainOf (c .before .before .before .before .step-at .ensures))
-    ((c .before .plain-of2 .ensures) ∙ ap plainOf (c .before .before .step-at2 .ensures))
+returns-2 c =
+    let a = c .before .before .before .before .before .before .before .before .before .before .args in
+    reading-told (a .first .now) (a .i) (a .second .now) (a .j) _ _ _ (c .before .before .step-at .ensures) (c .before .step-at2 .ensures)
+    (c .same-reading .ensures)
 
 pub equal-spec : {M : Type 1} → statement M
 equal-spec =
     tie.close
     (tie.spec
-    words-at-requires
-    words-at-requires-2
-    same-requires
+    mul-at
+    add-end
+    mul-from
+    add-to
+    mul-same-words
+    sub-same-words
+    part-same-words-start
+    part-same-words-end
+    mul-same-words-2
+    sub-same-words-2
+    part-same-words-start-2
+    part-same-words-end-2
+    same-words-requires
     returns
     step-at-requires
-    plain-of-requires
     step-at-requires-2
-    plain-of-requires-2
-    same-requires-2
+    same-reading-requires
     returns-2)

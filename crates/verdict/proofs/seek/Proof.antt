@@ -1,10 +1,9 @@
 -- `seek` meets its contract: none of the steps passed over is step i of the first list (`Seeking`).
 -- Assumes nothing.
-use mathlib.Core.Bool.{true, false}
 use Prim.Native.Nat.{_-_}
 use native.Mathlib.Omega.{arith}
 use Rattle.verdict.specs.Counted.{count}
-use Rattle.verdict.proofs.Walks.{Seeking, seeking-start, seeking-more, seeking-found, seeking-end, told-by}
+use Rattle.verdict.proofs.Walks.{Seeking, seeking-start, seeking-more, seeking-found, seeking-end}
 use Rattle.verdict.proofs.seek.Statement.{statement}
 use Rattle.verdict.proofs.seek.Tie as tie
 
@@ -26,7 +25,7 @@ equal-requires c κs = (
 
 returns : tie.Need-returns Inv-loop μ-loop
 returns c = seeking-found _ _ _ _ _ (c .before .before .before .loop .inv) (c .before .before .before .before .before .before .before .pre .0)
-    (told-by _ _ true (c .before .equal .ensures) (c .if1 .taken))
+    (c .before .equal .ensures .holds (c .if1 .taken))
 
 add-j : tie.Need-add-j Inv-loop μ-loop
 add-j c = omega (arith, (c .before .before .loop-test .taken), (c .before .before .before .before .before .before .before .good))
@@ -36,7 +35,7 @@ loop-less c = omega (arith, (c .before .before .loop-test .taken))
 
 loop-again : tie.Need-loop-again Inv-loop μ-loop
 loop-again c = seeking-more _ _ _ _ _ (c .before .before .before .loop .inv) (c .before .before .loop-test .taken)
-    (told-by _ _ false (c .before .equal .ensures) (c .if1 .left))
+    (c .before .equal .ensures .fails (c .if1 .left))
 
 returns-2 : tie.Need-returns-2 Inv-loop μ-loop
 returns-2 c = seeking-end _ _ _ _ _ (c .before .loop .inv) (c .loop-test .left)

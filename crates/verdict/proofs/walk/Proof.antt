@@ -2,13 +2,12 @@
 -- the steps differ, the lists part.
 -- Assumes nothing.
 use mathlib.Core.Logic.{inl, inr}
-use mathlib.Core.Bool.{true, false}
 use mathlib.Core.Path.{refl}
 use Prim.Native.Nat.{_-_}
 use native.Mathlib.Omega.{arith}
 use borrow.Author.Tests.{not-true, not-false}
 use Rattle.verdict.specs.Counted.{count}
-use Rattle.verdict.proofs.Walks.{Walking, walking-start, walking-more, walking-same, walking-parts, told-by}
+use Rattle.verdict.proofs.Walks.{Walking, walking-start, walking-more, walking-same, walking-parts}
 use Rattle.verdict.proofs.walk.Statement.{statement}
 use Rattle.verdict.proofs.walk.Tie as tie
 
@@ -63,7 +62,7 @@ returns-4 c = (
   walking-parts _ _ _ _ _ _ _ (c .before .before .before .before .before .before .loop .inv)
       (c .before .before .before .before .before .next .ensures) (c .before .before .before .before .next2 .ensures)
       (inl (omega (arith, (c .before .before .before .if1 .left), (c .before .before .before .before .before .next .ensures .high))))
-      (λ p q. told-by _ _ false (c .before .equal .ensures) (not-true (c .before .equal .result) (c .if4 .taken))),
+      (λ p q. c .before .equal .ensures .fails (not-true (c .before .equal .result) (c .if4 .taken))),
 )
 
 add-i : tie.Need-add-i Inv-loop μ-loop
@@ -95,7 +94,7 @@ loop-again c = walking-more _ _ _ _ _ _ _ (c .before .before .before .before .be
     (c .before .before .before .before .before .next .ensures) (c .before .before .before .before .next2 .ensures)
     (omega (arith, (c .before .before .before .if1 .left), (c .before .before .before .before .before .next .ensures .high)))
     (omega (arith, (c .before .before .if3 .left), (c .before .before .before .before .next2 .ensures .high)))
-    (told-by _ _ true (c .before .equal .ensures) (not-false (c .before .equal .result) (c .if4 .left)))
+    (c .before .equal .ensures .holds (not-false (c .before .equal .result) (c .if4 .left)))
 
 pub walk-spec : {M : Type 1} → statement M
 walk-spec =

@@ -1,17 +1,18 @@
 -- `walk_all` meets its contract: the watches below k see the same (`Below`), and where watch k parts no rearrangement is left.
 -- Assumes nothing.
-use Prim.Native.Nat.{_-_, _≤_}
+use Prim.Native.Nat.{_+_, _-_, _≤_}
 use native.Mathlib.Omega.{arith}
 use borrow.Author.Needs.{needs}
+use Rattle.verdict.specs.Watches.{lastWatch}
 use Rattle.verdict.proofs.Walks.{Below, compared-same, compared-parted, below-more}
 use Rattle.verdict.proofs.walk_all.Statement.{statement}
 use Rattle.verdict.proofs.walk_all.Tie as tie
 
 abbrev Inv-loop : tie.InvT-loop
-Inv-loop first second lent k₀ k = (1 ≤ k) × (k ≤ 35) × Below first second k
+Inv-loop first second lent k₀ k = (1 ≤ k) × (k ≤ lastWatch + 1) × Below first second k
 
 abbrev μ-loop : tie.MeasureT-loop
-μ-loop first second lent k₀ k = 35 - k
+μ-loop first second lent k₀ k = lastWatch + 1 - k
 
 loop-holds : tie.Need-loop-holds Inv-loop μ-loop
 loop-holds c = (omega arith, omega arith, λ n l h. absurd (omega (arith, l, h)))
@@ -39,7 +40,7 @@ loop-again : tie.Need-loop-again Inv-loop μ-loop
 loop-again c = (
   omega arith,
   omega (arith, (c .before .before .before .loop-test .taken)),
-  below-more _ _ _ _ (c .before .before .before .before .loop .inv .0) (omega (arith, (c .before .before .before .loop-test .taken)))
+  below-more _ _ _ _ ((c .before .before .before .before .loop .inv .0), omega (arith, (c .before .before .before .loop-test .taken)))
       (c .before .before .before .before .loop .inv .2) (c .enum-told .given .1) (c .before .before .walk .ensures),
 )
 

@@ -3,28 +3,29 @@ use Prim.Native.Nat.{_+_, _-_, _≤_}
 use mathlib.Core.Path.{_≡_, sym, ap, _∙_}
 use native.Mathlib.Omega.{arith}
 use lib.ListN.{length}
-use Rattle.dataway.proofs.ControlLaws.{cleared-fit, each-fit, each-more, each-none}
+use Rattle.dataway.proofs.ControlLaws.{each-fit, each-more, each-none}
 use Rattle.dataway.specs.Controls.{eachStation, afterC}
 use Rattle.dataway.specs.Crate.{FitCrate}
 use Rattle.station.specs.Control.{clearedOf}
+use Rattle.station.proofs.ControlLaws.{cleared-kept}
 use Rattle.dataway.proofs.control.clear.Statement.{statement}
 use Rattle.dataway.proofs.control.clear.Tie as tie
 
 abbrev Inv-loop : tie.InvT-loop
-Inv-loop memory₀ k₀ memory k = (k ≤ 23) × (memory ≡ eachStation clearedOf k memory₀)
+Inv-loop memory₀ k₀ memory k = (k ≤ 23) × (memory ≡ eachStation (λ n. clearedOf) k memory₀)
 
 abbrev μ-loop : tie.MeasureT-loop
 μ-loop memory₀ k₀ memory k = 23 - k
 
 loop-holds : tie.Need-loop-holds Inv-loop μ-loop
-loop-holds c = (omega arith, each-none clearedOf _)
+loop-holds c = (omega arith, each-none (λ n. clearedOf) _)
 
 add-clear-station : tie.Need-add-clear-station Inv-loop μ-loop
 add-clear-station c = omega arith
 
 clear-station-requires : tie.Need-clear-station-requires Inv-loop μ-loop
 clear-station-requires c κs = let f : FitCrate (c .before .before .loop .memory) = rw (c .before .before .loop .inv .1)
-    (each-fit clearedOf cleared-fit (c .before .before .before .before .args .memory .now) (c .before .before .before .before .pre)
+    (each-fit (λ n. clearedOf) (λ n. cleared-kept) (c .before .before .before .before .args .memory .now) (c .before .before .before .before .pre)
     (c .before .before .loop .k) (c .before .before .loop .inv .0)) in
     (f .size, (omega arith, f .station ((c .before .before .loop .k) + 1) (omega arith) (omega arith)))
 
@@ -37,7 +38,7 @@ loop-less c = omega arith
 loop-again : tie.Need-loop-again Inv-loop μ-loop
 loop-again c = (
   omega arith,
-  each-more clearedOf cleared-fit (c .before .before .before .before .before .before .before .args .memory .now)
+  each-more (λ n. clearedOf) (λ n. cleared-kept) (c .before .before .before .before .before .before .before .args .memory .now)
       (c .before .before .before .before .before .before .before .pre) (c .before .before .before .before .before .loop .k)
       (c .before .before .before .before .before .loop .memory) (c .before .before .clear-station .last .0) (omega arith)
       (c .before .before .before .before .before .loop .inv .1) (c .before .before .clear-station .ensures),
@@ -45,7 +46,7 @@ loop-again c = (
 
 same-length : tie.Need-same-length Inv-loop μ-loop
 same-length c = ap length (c .before .loop .inv .1)
-    ∙ each-fit clearedOf cleared-fit (c .before .before .before .args .memory .now) (c .before .before .before .pre) (c .before .loop .k)
+    ∙ each-fit (λ n. clearedOf) (λ n. cleared-kept) (c .before .before .before .args .memory .now) (c .before .before .before .pre) (c .before .loop .k)
     (c .before .loop .inv .0) .size ∙ sym (c .before .before .before .pre .size)
 
 returns : tie.Need-returns Inv-loop μ-loop

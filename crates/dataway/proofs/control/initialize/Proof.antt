@@ -5,28 +5,29 @@ use mathlib.Core.List.{List}
 use mathlib.Core.Path.{_≡_, sym, ap, _∙_}
 use native.Mathlib.Omega.{arith}
 use lib.ListN.{length, set, length-set}
-use Rattle.dataway.proofs.ControlLaws.{initialized-fit, each-fit, each-more, each-none}
+use Rattle.dataway.proofs.ControlLaws.{each-fit, each-more, each-none}
 use Rattle.dataway.specs.Controls.{eachStation, afterZ}
 use Rattle.dataway.specs.Crate.{FitCrate}
 use Rattle.station.specs.Control.{initializedOf}
+use Rattle.station.proofs.ControlLaws.{initialized-kept}
 use Rattle.dataway.proofs.control.initialize.Statement.{statement}
 use Rattle.dataway.proofs.control.initialize.Tie as tie
 
 abbrev Inv-loop : tie.InvT-loop
-Inv-loop memory₀ k₀ memory k = (k ≤ 23) × (memory ≡ eachStation initializedOf k memory₀)
+Inv-loop memory₀ k₀ memory k = (k ≤ 23) × (memory ≡ eachStation (λ n. initializedOf) k memory₀)
 
 abbrev μ-loop : tie.MeasureT-loop
 μ-loop memory₀ k₀ memory k = 23 - k
 
 loop-holds : tie.Need-loop-holds Inv-loop μ-loop
-loop-holds c = (omega arith, each-none initializedOf _)
+loop-holds c = (omega arith, each-none (λ n. initializedOf) _)
 
 add-initialize-station : tie.Need-add-initialize-station Inv-loop μ-loop
 add-initialize-station c = omega arith
 
 initialize-station-requires : tie.Need-initialize-station-requires Inv-loop μ-loop
 initialize-station-requires c κs = let f : FitCrate (c .before .before .loop .memory) = rw (c .before .before .loop .inv .1)
-    (each-fit initializedOf initialized-fit (c .before .before .before .before .args .memory .now) (c .before .before .before .before .pre)
+    (each-fit (λ n. initializedOf) (λ n. initialized-kept) (c .before .before .before .before .args .memory .now) (c .before .before .before .before .pre)
     (c .before .before .loop .k) (c .before .before .loop .inv .0)) in
     (f .size, (omega arith, f .station ((c .before .before .loop .k) + 1) (omega arith) (omega arith)))
 
@@ -39,7 +40,7 @@ loop-less c = omega arith
 loop-again : tie.Need-loop-again Inv-loop μ-loop
 loop-again c = (
   omega arith,
-  each-more initializedOf initialized-fit (c .before .before .before .before .before .before .before .args .memory .now)
+  each-more (λ n. initializedOf) (λ n. initialized-kept) (c .before .before .before .before .before .before .before .args .memory .now)
       (c .before .before .before .before .before .before .before .pre) (c .before .before .before .before .before .loop .k)
       (c .before .before .before .before .before .loop .memory) (c .before .before .initialize-station .last .0) (omega arith)
       (c .before .before .before .before .before .loop .inv .1) (c .before .before .initialize-station .ensures),
@@ -49,13 +50,13 @@ slice-write-memory : tie.Need-slice-write-memory Inv-loop μ-loop
 slice-write-memory c = omega (
   arith,
   ap length (c .before .loop .inv .1)
-      ∙ each-fit initializedOf initialized-fit (c .before .before .before .args .memory .now) (c .before .before .before .pre)
+      ∙ each-fit (λ n. initializedOf) (λ n. initialized-kept) (c .before .before .before .args .memory .now) (c .before .before .before .pre)
       (c .before .loop .k) (c .before .loop .inv .0) .size,
 )
 
 same-length : tie.Need-same-length Inv-loop μ-loop
 same-length c = length-set (c .before .loop .memory) 0 _ ∙ ap length (c .before .loop .inv .1)
-    ∙ each-fit initializedOf initialized-fit (c .before .before .before .args .memory .now) (c .before .before .before .pre)
+    ∙ each-fit (λ n. initializedOf) (λ n. initialized-kept) (c .before .before .before .args .memory .now) (c .before .before .before .pre)
     (c .before .loop .k) (c .before .loop .inv .0) .size ∙ sym (c .before .before .before .pre .size)
 
 returns : tie.Need-returns Inv-loop μ-loop

@@ -6,8 +6,8 @@ use native.Mathlib.Omega.{arith}
 use borrow.Author.Tests.{not-true, not-false}
 use borrow.Author.Needs.{needs}
 use Rattle.dataway.specs.Crate.{isFitStation}
-use Rattle.station.proofs.TestLaws.{every-more, every-false}
-use Rattle.station.specs.Cases.{every}
+use Rattle.kinds.proofs.TestLaws.{every-more, every-false}
+use Rattle.kinds.specs.Cases.{every}
 use Rattle.dataway.proofs.fitness.are_stations_fit.Statement.{statement}
 use Rattle.dataway.proofs.fitness.are_stations_fit.Tie as tie
 

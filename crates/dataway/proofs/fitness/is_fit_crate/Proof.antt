@@ -3,7 +3,7 @@ use mathlib.Core.Path.{sym, _∙_}
 use borrow.Author.Tests.{ne-eqb, lt-ltb, le-ltb, not-true, not-false}
 use borrow.Author.Needs.{needs}
 use Rattle.dataway.specs.Crate.{isFitCrate, crateTests}
-use Rattle.station.proofs.TestLaws.{both-true}
+use Rattle.kinds.proofs.TestLaws.{both-true}
 use Rattle.dataway.proofs.fitness.is_fit_crate.Statement.{statement}
 use Rattle.dataway.proofs.fitness.is_fit_crate.Tie as tie
 

@@ -6,8 +6,8 @@ use native.Mathlib.Omega.{arith}
 use borrow.Author.Tests.{eq-eqb, ne-eqb}
 use borrow.Author.Needs.{needs}
 use Rattle.dataway.specs.Crate.{isFitRest}
-use Rattle.station.proofs.TestLaws.{every-more, every-false}
-use Rattle.station.specs.Cases.{every}
+use Rattle.kinds.proofs.TestLaws.{every-more, every-false}
+use Rattle.kinds.specs.Cases.{every}
 use Rattle.dataway.proofs.fitness.is_rest_zero.Statement.{statement}
 use Rattle.dataway.proofs.fitness.is_rest_zero.Tie as tie
 

@@ -5,9 +5,9 @@ use mathlib.Core.Path.{_≡_, refl, sym, _∙_}
 use native.Mathlib.Omega.{arith}
 use borrow.Author.Tests.{not-true, not-false}
 use borrow.Author.Needs.{needs}
-use Rattle.station.proofs.TestLaws.{every-more, every-false}
+use Rattle.kinds.proofs.TestLaws.{every-more, every-false}
 use Rattle.station.specs.Block.{isFitRegister}
-use Rattle.station.specs.Cases.{every}
+use Rattle.kinds.specs.Cases.{every}
 use Rattle.panel.proofs.fitness.are_registers_fit.Statement.{statement}
 use Rattle.panel.proofs.fitness.are_registers_fit.Tie as tie
 

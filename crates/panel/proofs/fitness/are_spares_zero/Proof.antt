@@ -5,9 +5,9 @@ use mathlib.Core.Path.{_≡_, refl, sym}
 use native.Mathlib.Omega.{arith}
 use borrow.Author.Tests.{eq-eqb, ne-eqb}
 use borrow.Author.Needs.{needs}
-use Rattle.station.proofs.TestLaws.{every-more, every-false}
+use Rattle.kinds.proofs.TestLaws.{every-more, every-false}
 use Rattle.station.specs.Block.{isFitSpare}
-use Rattle.station.specs.Cases.{every}
+use Rattle.kinds.specs.Cases.{every}
 use Rattle.panel.proofs.fitness.are_spares_zero.Statement.{statement}
 use Rattle.panel.proofs.fitness.are_spares_zero.Tie as tie
 

@@ -3,7 +3,7 @@ use mathlib.Core.Path.{sym, _∙_}
 use borrow.Author.Tests.{ne-eqb, not-true, not-false}
 use borrow.Author.Needs.{needs}
 use Rattle.station.proofs.Fitness.{header-head}
-use Rattle.station.proofs.TestLaws.{both-true}
+use Rattle.kinds.proofs.TestLaws.{both-true}
 use Rattle.station.specs.Block.{isFitBlock, fitTests}
 use Rattle.panel.proofs.fitness.is_fit_block.Statement.{statement}
 use Rattle.panel.proofs.fitness.is_fit_block.Tie as tie

@@ -1,10 +1,12 @@
--- `is_fit_header` meets its contract: its tests are those of the definition, in their order.
+-- `is_fit_header` meets its contract: its tests are those of the definition, in their order. `at-table`, `at-status` and `at-mask` are the places in the
+-- code where these tests have been passed.
 use mathlib.Core.Path.{sym, _∙_}
 use native.Mathlib.Omega.{arith}
-use borrow.Author.Tests.{lt-ltb, le-ltb, le-leb, lt-leb, not-true, not-false}
+use borrow.Author.Tests.{not-true, not-false}
 use borrow.Author.Needs.{needs}
+use Rattle.kinds.proofs.TableLaws.{table-facts}
 use Rattle.station.proofs.Fitness.{header-no-status, header-no-mask, header-no-head, header-last}
-use Rattle.station.proofs.KindTable.{sources-few}
+use Rattle.station.proofs.KindTable.{block-sources-few}
 use Rattle.station.specs.Block.{isFitHeader, headerTests}
 use Rattle.panel.proofs.fitness.is_fit_header.Statement.{statement}
 use Rattle.panel.proofs.fitness.is_fit_header.Tie as tie
@@ -12,42 +14,15 @@ use Rattle.panel.proofs.fitness.is_fit_header.Tie as tie
 shared-slice-read-kind : tie.Need-shared-slice-read-kind
 shared-slice-read-kind c = search needs
 
+shared-slice-read-in-table : tie.Need-shared-slice-read-in-table
+shared-slice-read-in-table c = search needs
+
+in-table-requires : tie.Need-in-table-requires
+in-table-requires c κs = search needs
+
 returns : tie.Need-returns
 unfolding isFitHeader headerTests
-returns c = simp (le-ltb _ _ (c .if1 .taken))
-
-cast-k : tie.Need-cast-k
-cast-k c = search needs
-
-shared-slice-read-if2 : tie.Need-shared-slice-read-if2
-shared-slice-read-if2 c = search needs
-
-mul-if2 : tie.Need-mul-if2
-mul-if2 c = search needs
-
-array-read-if2 : tie.Need-array-read-if2
-array-read-if2 c = search needs
-
-returns-2 : tie.Need-returns-2
-unfolding isFitHeader headerTests
-returns-2 c = simp (lt-ltb _ _ (c .before .before .if1 .left), lt-leb _ _ (c .if2 .taken))
-
-mul-if3 : tie.Need-mul-if3
-mul-if3 c = search needs
-
-array-read-if3 : tie.Need-array-read-if3
-array-read-if3 c = search needs
-
-shared-slice-read-if3 : tie.Need-shared-slice-read-if3
-shared-slice-read-if3 c = search needs
-
-returns-3 : tie.Need-returns-3
-unfolding isFitHeader headerTests
-returns-3 c = simp (
-  lt-ltb _ _ (c .before .before .before .before .if1 .left),
-  le-leb _ _ (c .before .before .if2 .left),
-  lt-leb _ _ (c .if3 .taken),
-)
+returns c = simp (sym (c .before .in-table .ensures) ∙ not-true _ (c .if1 .taken))
 
 sources-requires : tie.Need-sources-requires
 sources-requires c κs = search needs
@@ -56,106 +31,92 @@ shared-slice-read-fits-bits : tie.Need-shared-slice-read-fits-bits
 shared-slice-read-fits-bits c = search needs
 
 fits-bits-requires : tie.Need-fits-bits-requires
-fits-bits-requires c κs = omega (
-  arith,
-  sources-few (c .before .before .before .before .before .before .before .before .before .args .b .now)
-      (c .before .before .if3 .left),
-  (c .before .sources .ensures),
-)
+fits-bits-requires c κs =
+    let at-table = c .before in
+    let table = sym (at-table .before .before .in-table .ensures) ∙ not-false _ (at-table .before .if1 .left) in
+    omega (arith, block-sources-few (at-table .before .before .before .before .before .before .args .b .now) (table-facts _ _ table .2), (at-table .sources .ensures))
 
-returns-4 : tie.Need-returns-4
-returns-4 c = sym (header-no-status
-    (c .before .before .before .before .before .before .before .before .before .before .before .args .b .now)
-    (c .before .before .before .before .before .before .before .before .if1 .left)
-    (c .before .before .before .before .before .before .if2 .left) (c .before .before .before .before .if3 .left)
-    (rw (c .before .before .before .sources .ensures) at (sym (c .before .fits-bits .ensures) ∙ not-true _ (c .if4 .taken))))
+returns-2 : tie.Need-returns-2
+returns-2 c =
+    let at-table = c .before .before .before in
+    let table = sym (at-table .before .before .in-table .ensures) ∙ not-false _ (at-table .before .if1 .left) in
+    let status = rw (at-table .sources .ensures) at (sym (c .before .fits-bits .ensures) ∙ not-true _ (c .if2 .taken)) in
+    sym (header-no-status _ table status)
 
 shared-slice-read-fits-bits-2 : tie.Need-shared-slice-read-fits-bits-2
 shared-slice-read-fits-bits-2 c = search needs
 
 fits-bits-requires-2 : tie.Need-fits-bits-requires-2
-fits-bits-requires-2 c κs = omega (
-  arith,
-  sources-few (c .before .before .before .before .before .before .before .before .before .before .before .before .args .b .now)
-      (c .before .before .before .before .before .if3 .left),
-  (c .before .before .before .before .sources .ensures),
-)
+fits-bits-requires-2 c κs =
+    let at-table = c .before .before .before .before in
+    let table = sym (at-table .before .before .in-table .ensures) ∙ not-false _ (at-table .before .if1 .left) in
+    omega (arith, block-sources-few (at-table .before .before .before .before .before .before .args .b .now) (table-facts _ _ table .2), (at-table .sources .ensures))
 
-returns-5 : tie.Need-returns-5
-returns-5 c = sym (header-no-mask
-    (c .before .before .before .before .before .before .before .before .before .before .before .before .before .before .args .b .now)
-    (c .before .before .before .before .before .before .before .before .before .before .before .if1 .left)
-    (c .before .before .before .before .before .before .before .before .before .if2 .left)
-    (c .before .before .before .before .before .before .before .if3 .left)
-    (rw (c .before .before .before .before .before .before .sources .ensures) at
-    (sym (c .before .before .before .before .fits-bits .ensures) ∙ not-false _ (c .before .before .before .if4 .left)))
-    (rw (c .before .before .before .before .before .before .sources .ensures) at
-    (sym (c .before .fits-bits2 .ensures) ∙ not-true _ (c .if5 .taken))))
+returns-3 : tie.Need-returns-3
+returns-3 c =
+    let at-status = c .before .before .before in
+    let at-table = at-status .before .before .before in
+    let table = sym (at-table .before .before .in-table .ensures) ∙ not-false _ (at-table .before .if1 .left) in
+    let status = rw (at-table .sources .ensures) at (sym (at-status .before .fits-bits .ensures) ∙ not-false _ (at-status .if2 .left)) in
+    let mask = rw (at-table .sources .ensures) at (sym (c .before .fits-bits2 .ensures) ∙ not-true _ (c .if3 .taken)) in
+    sym (header-no-mask _ table status mask)
 
-mul-if6 : tie.Need-mul-if6
-mul-if6 c = search needs
+last-head-requires : tie.Need-last-head-requires
+last-head-requires c κs =
+    let at-table = c .before .before .before .before .before .before in
+    let table = sym (at-table .before .before .in-table .ensures) ∙ not-false _ (at-table .before .if1 .left) in
+    table-facts _ _ table .0
 
-array-read-if6 : tie.Need-array-read-if6
-array-read-if6 c = search needs
+shared-slice-read-if4 : tie.Need-shared-slice-read-if4
+shared-slice-read-if4 c = search needs
 
-shared-slice-read-if6 : tie.Need-shared-slice-read-if6
-shared-slice-read-if6 c = search needs
-
-returns-6 : tie.Need-returns-6
-returns-6 c = sym (header-no-head
-    (c .before .before .before .before .before .before .before .before .before .before .before .before .before .before .before .before .args .b .now) (c .before .before .before .before .before .before .before .before .before .before .before .before .before .if1 .left) (c .before .before .before .before .before .before .before .before .before .before .before .if2 .left) (c .before .before .before .before .before .before .before .before .before .if3 .left)
-    (rw (c .before .before .before .before .before .before .before .before .sources .ensures) at
-    (sym (c .before .before .before .before .before .before .fits-bits .ensures)
-    ∙ not-false _ (c .before .before .before .before .before .if4 .left)))
-    (rw (c .before .before .before .before .before .before .before .before .sources .ensures) at
-    (sym (c .before .before .before .fits-bits2 .ensures) ∙ not-false _ (c .before .before .if5 .left))) (c .if6 .taken))
+returns-4 : tie.Need-returns-4
+returns-4 c =
+    let at-mask = c .before .before .before in
+    let at-status = at-mask .before .before .before in
+    let at-table = at-status .before .before .before in
+    let table = sym (at-table .before .before .in-table .ensures) ∙ not-false _ (at-table .before .if1 .left) in
+    let status = rw (at-table .sources .ensures) at (sym (at-status .before .fits-bits .ensures) ∙ not-false _ (at-status .if2 .left)) in
+    let mask = rw (at-table .sources .ensures) at (sym (at-mask .before .fits-bits2 .ensures) ∙ not-false _ (at-mask .if3 .left)) in
+    sym (header-no-head _ table status mask (rw (c .before .before .last-head .ensures) at (c .if4 .taken)))
 
 shared-slice-read-result : tie.Need-shared-slice-read-result
 shared-slice-read-result c = search needs
 
-mul-result : tie.Need-mul-result
-mul-result c = search needs
+most-fill-requires : tie.Need-most-fill-requires
+most-fill-requires c κs =
+    let at-table = c .before .before .before .before .before .before .before .before .before .before in
+    let table = sym (at-table .before .before .in-table .ensures) ∙ not-false _ (at-table .before .if1 .left) in
+    table-facts _ _ table .0
 
-array-read-result : tie.Need-array-read-result
-array-read-result c = search needs
-
-returns-7 : tie.Need-returns-7
-returns-7 c = sym (header-last
-    (c .before .before .before .before .before .before .before .before .before .before .before .before .before .before .before .before .before .args .b .now) (c .before .before .before .before .before .before .before .before .before .before .before .before .before .before .if1 .left) (c .before .before .before .before .before .before .before .before .before .before .before .before .if2 .left) (c .before .before .before .before .before .before .before .before .before .before .if3 .left)
-    (rw (c .before .before .before .before .before .before .before .before .before .sources .ensures) at
-    (sym (c .before .before .before .before .before .before .before .fits-bits .ensures)
-    ∙ not-false _ (c .before .before .before .before .before .before .if4 .left)))
-    (rw (c .before .before .before .before .before .before .before .before .before .sources .ensures) at
-    (sym (c .before .before .before .before .fits-bits2 .ensures) ∙ not-false _ (c .before .before .before .if5 .left)))
-    (c .before .if6 .left))
+returns-5 : tie.Need-returns-5
+returns-5 c =
+    let at-mask = c .before .before .before .before .before in
+    let at-status = at-mask .before .before .before in
+    let at-table = at-status .before .before .before in
+    let table = sym (at-table .before .before .in-table .ensures) ∙ not-false _ (at-table .before .if1 .left) in
+    let status = rw (at-table .sources .ensures) at (sym (at-status .before .fits-bits .ensures) ∙ not-false _ (at-status .if2 .left)) in
+    let mask = rw (at-table .sources .ensures) at (sym (at-mask .before .fits-bits2 .ensures) ∙ not-false _ (at-mask .if3 .left)) in
+    rw (c .most-fill .ensures) (sym (header-last _ table status mask (rw (c .before .before .before .before .last-head .ensures) at (c .before .before .if4 .left))))
 
 pub is-fit-header-spec : {M : Type 1} → statement M
 is-fit-header-spec =
     tie.close
     (tie.spec
     shared-slice-read-kind
+    shared-slice-read-in-table
+    in-table-requires
     returns
-    cast-k
-    shared-slice-read-if2
-    mul-if2
-    array-read-if2
-    returns-2
-    mul-if3
-    array-read-if3
-    shared-slice-read-if3
-    returns-3
     sources-requires
     shared-slice-read-fits-bits
     fits-bits-requires
-    returns-4
+    returns-2
     shared-slice-read-fits-bits-2
     fits-bits-requires-2
-    returns-5
-    mul-if6
-    array-read-if6
-    shared-slice-read-if6
-    returns-6
+    returns-3
+    last-head-requires
+    shared-slice-read-if4
+    returns-4
     shared-slice-read-result
-    mul-result
-    array-read-result
-    returns-7)
+    most-fill-requires
+    returns-5)

@@ -1,27 +1,29 @@
--- `take_list` meets its contract: no file has no line (`stored-none`); a file read to its end is stored (`stored-all`).
-use Rattle.shell.proofs.ListedLaws.{stored-none, stored-all, start-list}
-use mathlib.Core.Path.{refl}
+-- `take_list` meets its contract: a file read whole, to its end, is stored (`stored-all`).
+use mathlib.Core.Path.{sym}
+use mathlib.Core.Bool.{true≢false}
+use borrow.Author.Tests.{not-false}
+use Rattle.shell.proofs.ListedLaws.{listed-none, stored-all, start-list}
 use borrow.Author.Needs.{needs}
 use Rattle.shell.proofs.steps.take_list.Statement.{statement}
 use Rattle.shell.proofs.steps.take_list.Tie as tie
 
-open-read-requires : tie.Need-open-read-requires
-open-read-requires c κs = search needs
+slice-aggregate-open : tie.Need-slice-aggregate-open
+slice-aggregate-open c = search needs
 
-say-unopened-requires : tie.Need-say-unopened-requires
-say-unopened-requires c κs = search needs
+slice-aggregate-open-2 : tie.Need-slice-aggregate-open-2
+slice-aggregate-open-2 c = search needs
+
+open-requires : tie.Need-open-requires
+open-requires c κs = search needs
 
 returns : tie.Need-returns
-returns c = stored-none ((c .before .before .before .before .before .before .before .args .words) .now)
+returns c = λ e. absurd (true≢false (sym e))
 
 take-parts-requires : tie.Need-take-parts-requires
-take-parts-requires c κs = start-list ((c .before .before .before .before .before .before .before .before .before .pre .0)) ((c .before .before .before .before .before .before .before .before .before .pre .1))
+take-parts-requires c κs = (start-list (c .before .before .before .before .before .before .before .before .before .before .before .pre .0) (c .before .before .before .before .before .before .before .before .before .before .before .pre .1), listed-none)
 
 close-requires : tie.Need-close-requires
 close-requires c κs = search needs
-
-finish-requires : tie.Need-finish-requires
-finish-requires c κs = search needs
 
 same-length : tie.Need-same-length
 same-length c = search needs
@@ -33,19 +35,41 @@ same-length-3 : tie.Need-same-length-3
 same-length-3 c = search needs
 
 returns-2 : tie.Need-returns-2
-returns-2 c = stored-all refl ((c .before .before .before .before .before .before .before .before .before .before .before .before .take-parts .ensures .1)) ((c .before .before .finish .result)) ((c .before .before .before .before .before .before .before .before .before .before .before .before .take-parts .last) .1 .1 .1 .1 .0) ((c .before .before .finish .last) .1 .1 .0) ((c .before .before .finish .ensures .1)) ((c .before .before .finish .ensures .0))
+returns-2 c = λ e. absurd (true≢false (sym e))
+
+finish-requires : tie.Need-finish-requires
+finish-requires c κs = search needs
+
+same-length-4 : tie.Need-same-length-4
+same-length-4 c = search needs
+
+same-length-5 : tie.Need-same-length-5
+same-length-5 c = search needs
+
+same-length-6 : tie.Need-same-length-6
+same-length-6 c = search needs
+
+returns-3 : tie.Need-returns-3
+returns-3 c = let read = (c .before .before .before .before .before .before .before .before .before .before .before .before .before .before .take-parts) in
+    let end = (c .before .before .finish) in
+    λ e. stored-all (read .ensures .1 (not-false (read .result .whole) (c .before .before .before .before .before .if2 .left))) (end .result) (read .last .1 .1 .1 .1 .0) (end .last .1 .1 .0) (end .ensures .1) (end .ensures .0)
 
 pub take-list-spec : {M : Type 1} → statement M
 take-list-spec =
     tie.close
     (tie.spec
-    open-read-requires
-    say-unopened-requires
+    slice-aggregate-open
+    slice-aggregate-open-2
+    open-requires
     returns
     take-parts-requires
     close-requires
-    finish-requires
     same-length
     same-length-2
     same-length-3
-    returns-2)
+    returns-2
+    finish-requires
+    same-length-4
+    same-length-5
+    same-length-6
+    returns-3)

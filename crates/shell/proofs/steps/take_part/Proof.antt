@@ -1,37 +1,53 @@
--- `take_part` meets its contract: nothing was read, or all of what was read is taken.
-use Rattle.shell.proofs.ListedLaws.{listed-none, listed-one}
-use lib.ListN.{take}
-use Rattle.listfile.specs.Listing.{stateOf}
+-- `take_part` meets its contract: nothing was read, or all of what was read is taken and none of it is past the last line (`listed-more`).
+use Rattle.shell.proofs.ListedLaws.{listed-more}
+use native.Mathlib.Omega.{arith}
+use Prim.Native.Nat.{_<_}
+use mathlib.Core.Bool.{false}
+use mathlib.Core.Path.{_≡_, sym, _∙_}
+use lib.ListN.{take, length}
+use lib.Seq.{length-take-le}
 use borrow.Author.Needs.{needs}
 use Rattle.shell.proofs.steps.take_part.Statement.{statement}
 use Rattle.shell.proofs.steps.take_part.Tie as tie
 
-read-requires : tie.Need-read-requires
-read-requires c κs = search needs
+slice-aggregate-read-some : tie.Need-slice-aggregate-read-some
+slice-aggregate-read-some c = search needs
 
-say-unread-requires : tie.Need-say-unread-requires
-say-unread-requires c κs = search needs
+read-some-requires : tie.Need-read-some-requires
+read-some-requires c κs = search needs
 
 same-length : tie.Need-same-length
 same-length c = search needs
 
 returns : tie.Need-returns
-returns c = ((c .before .before .before .before .before .before .before .before .before .before .pre), listed-none (stateOf ((c .before .before .before .before .before .before .before .before .before .before .args .s)) ((c .before .before .before .before .before .before .before .before .before .before .args .line) .now) ((c .before .before .before .before .before .before .before .before .before .before .args .words) .now)))
+returns c = search needs
+
+slice-reshare-prefix-has-past : tie.Need-slice-reshare-prefix-has-past
+slice-reshare-prefix-has-past c = search needs
+
+slice-aggregate-has-past : tie.Need-slice-aggregate-has-past
+slice-aggregate-has-past c = sym (length-take-le (c .before .before .before .before .read-some .result .count) (c .before .before .before .before .read-some .last .1 .1 .0) (c .before .before .before .before .read-some .ensures))
+
+has-past-requires : tie.Need-has-past-requires
+has-past-requires c κs = search needs
+
+slice-aggregate-say : tie.Need-slice-aggregate-say
+slice-aggregate-say c = search needs
+
+say-requires : tie.Need-say-requires
+say-requires c κs = search needs
 
 same-length-2 : tie.Need-same-length-2
 same-length-2 c = search needs
 
 returns-2 : tie.Need-returns-2
-returns-2 c = ((c .before .before .before .before .before .before .before .before .before .before .pre), listed-none (stateOf ((c .before .before .before .before .before .before .before .before .before .before .args .s)) ((c .before .before .before .before .before .before .before .before .before .before .args .line) .now) ((c .before .before .before .before .before .before .before .before .before .before .args .words) .now)))
-
-count-requires : tie.Need-count-requires
-count-requires c κs = search needs
+returns-2 c = search needs
 
 slice-reshare-prefix-take-text : tie.Need-slice-reshare-prefix-take-text
 slice-reshare-prefix-take-text c = search needs
 
 slice-aggregate-take-text : tie.Need-slice-aggregate-take-text
-slice-aggregate-take-text c = search needs
+slice-aggregate-take-text c = sym (length-take-le (c .before .before .before .before .before .before .before .read-some .result .count) (c .before .before .before .before .before .before .before .read-some .last .1 .1 .0) (c .before .before .before .before .before .before .before .read-some .ensures))
 
 take-text-requires : tie.Need-take-text-requires
 take-text-requires c κs = search needs
@@ -46,19 +62,26 @@ same-length-5 : tie.Need-same-length-5
 same-length-5 c = search needs
 
 returns-3 : tie.Need-returns-3
-returns-3 c = ((c .before .before .before .before .before .take-text .ensures .1), listed-one (take ((c .before .before .before .before .before .before .before .before .before .count .result)) ((c .before .before .before .before .before .before .before .before .before .before .before .before .before .before .before .read .last) .1 .0)) ((c .before .before .before .before .before .take-text .ensures .0)))
+returns-3 c = let n = (c .before .before .before .before .before .before .before .before .before .before .before .before .before .before .read-some .result .count) in
+    let text = (c .before .before .before .before .before .before .before .before .before .before .before .before .before .before .read-some .last .1 .1 .0) in
+    let long = length-take-le n text (c .before .before .before .before .before .before .before .before .before .before .before .before .before .before .read-some .ensures) in
+    ((c .before .before .before .before .take-text .ensures .1), λ e. listed-more (take n text) (c .before .before .before .before .before .before .before .before .before .before .before .before .before .before .before .before .before .before .before .before .before .pre .1) (omega (arith, long, (c .before .before .before .before .before .before .before .before .before .before .before .if1 .left))) (sym (c .before .before .before .before .before .before .before .before .before .has-past .ensures) ∙ (c .before .before .before .before .before .before .before .before .if2 .left)) (c .before .before .before .before .take-text .ensures .0))
 
 pub take-part-spec : {M : Type 1} → statement M
 take-part-spec =
     tie.close
     (tie.spec
-    read-requires
-    say-unread-requires
+    slice-aggregate-read-some
+    read-some-requires
     same-length
     returns
+    slice-reshare-prefix-has-past
+    slice-aggregate-has-past
+    has-past-requires
+    slice-aggregate-say
+    say-requires
     same-length-2
     returns-2
-    count-requires
     slice-reshare-prefix-take-text
     slice-aggregate-take-text
     take-text-requires

@@ -1,7 +1,7 @@
 -- `execute` meets its contract: kind and A are tested as in the definition, and `add` adds one.
 use borrow.Author.Tests.{lt-ltb, le-ltb, eq-eqb, ne-eqb}
 use borrow.Author.Needs.{needs}
-use Rattle.station.proofs.TestLaws.{both-false}
+use Rattle.kinds.proofs.TestLaws.{both-false}
 use Rattle.station.specs.Group1.{executeOf}
 use Rattle.station.proofs.group1.execute.Statement.{statement}
 use Rattle.station.proofs.group1.execute.Tie as tie

@@ -2,7 +2,7 @@
 use mathlib.Core.Logic.{⊎-elim, inl, inr}
 use borrow.Author.Tests.{lt-ltb, le-ltb, ne-eqb}
 use borrow.Author.Needs.{needs}
-use Rattle.station.proofs.TestLaws.{both-false}
+use Rattle.kinds.proofs.TestLaws.{both-false}
 use Rattle.station.specs.Group1.{overwriteOf}
 use Rattle.station.proofs.group1.overwrite.Statement.{statement}
 use Rattle.station.proofs.group1.overwrite.Tie as tie

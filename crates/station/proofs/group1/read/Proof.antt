@@ -2,7 +2,7 @@
 use borrow.Author.Tests.{eq-eqb, ne-eqb, lt-ltb, le-ltb}
 use borrow.Author.Needs.{needs}
 use Rattle.station.proofs.KindTable.{register-kind}
-use Rattle.station.proofs.TestLaws.{both-false}
+use Rattle.kinds.proofs.TestLaws.{both-false}
 use Rattle.station.specs.Group1.{readOf}
 use Rattle.station.proofs.group1.read.Statement.{statement}
 use Rattle.station.proofs.group1.read.Tie as tie

@@ -1,7 +1,7 @@
 -- `selective_clear` meets its contract: kind and A are tested as in the definition, and the register gets what `clear_bits` gives.
 use borrow.Author.Tests.{lt-ltb, le-ltb, eq-eqb, ne-eqb}
 use borrow.Author.Needs.{needs}
-use Rattle.station.proofs.TestLaws.{both-false}
+use Rattle.kinds.proofs.TestLaws.{both-false}
 use Rattle.station.specs.Group1.{selectiveClearOf}
 use Rattle.station.proofs.group1.selective_clear.Statement.{statement}
 use Rattle.station.proofs.group1.selective_clear.Tie as tie

@@ -1,7 +1,7 @@
 -- `selective_set` meets its contract: kind and A are tested as in the definition, and the register gets what `set_bits` gives.
 use borrow.Author.Tests.{lt-ltb, le-ltb, eq-eqb, ne-eqb}
 use borrow.Author.Needs.{needs}
-use Rattle.station.proofs.TestLaws.{both-false}
+use Rattle.kinds.proofs.TestLaws.{both-false}
 use Rattle.station.specs.Group1.{selectiveSetOf}
 use Rattle.station.proofs.group1.selective_set.Statement.{statement}
 use Rattle.station.proofs.group1.selective_set.Tie as tie

@@ -2,7 +2,7 @@
 use mathlib.Core.Path.{sym, _∙_}
 use borrow.Author.Tests.{ne-eqb}
 use borrow.Author.Needs.{needs}
-use Rattle.station.proofs.TestLaws.{positive}
+use Rattle.kinds.proofs.TestLaws.{positive}
 use Rattle.station.specs.Group2.{group2, selectiveClearGroup2Of}
 use Rattle.station.proofs.group2.selective_clear.Statement.{statement}
 use Rattle.station.proofs.group2.selective_clear.Tie as tie

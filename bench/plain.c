@@ -1,0 +1,543 @@
+// The CAMAC rehearsal in plain C, written from document 01 and the readings of it.
+// It shares no code with the proved program, so that the two can be compared, in what they print and in how fast they are.
+// Build: gcc -O3 plain.c. It reads crate.txt and run.txt in the current folder, or the two files named, and prints the sheet.
+#define _GNU_SOURCE
+#include <errno.h>
+#include <fcntl.h>
+#include <stdbool.h>
+#include <stdint.h>
+#include <stdio.h>
+#include <stdlib.h>
+#include <string.h>
+#include <unistd.h>
+
+enum { STATIONS = 23, LAST_LINE = 99999, LONGEST_LINE = 80, MODULUS = 1 << 24, WORD_MAX = MODULUS - 1, MOST_WORDS = 512 };
+enum { EMPTY, SCALER, OUTPUT, INPUT, BUFFER, COUNTER };
+enum {
+    GARBLED = 1,
+    NO_SUCH_STATION,
+    NO_SUCH_SUBADDRESS,
+    NO_SUCH_FUNCTION,
+    OVERWIDE_WORD,
+    CROSSED_RANGE,
+    BAD_LENGTH,
+    BAD_MODULE = 10,
+    OUT_OF_ORDER
+};
+
+struct station {
+    uint32_t kind, r, s, status, mask, head, fill, word[16];
+};
+
+struct reply {
+    uint32_t x, q, r;
+};
+
+static struct station crate[STATIONS + 1]; // block 0 is not used
+static uint32_t inhibit;
+
+// ---- the sheet ----
+
+static char sheet[1 << 16];
+static char *out = sheet;
+
+static void flush(void)
+{
+    for (char *from = sheet; from < out;) {
+        ssize_t n = write(STDOUT_FILENO, from, out - from);
+        if (n < 0 && errno != EINTR) {
+            perror("cannot write the sheet");
+            exit(1);
+        }
+        from += n > 0 ? n : 0;
+    }
+    out = sheet;
+}
+
+// Before a line is put: no line has 80 bytes.
+static inline void make_room(void)
+{
+    if (out > sheet + sizeof sheet - 80)
+        flush();
+}
+
+static const char pairs[] = "0001020304050607080910111213141516171819202122232425262728293031323334353637383940414243444546474849"
+                            "5051525354555657585960616263646566676869707172737475767778798081828384858687888990919293949596979899";
+
+static inline int places(uint32_t n)
+{
+    return n < 10 ? 1 : n < 100 ? 2 : n < 1000 ? 3 : n < 10000 ? 4 : n < 100000 ? 5 : n < 1000000 ? 6 : n < 10000000 ? 7 : 8;
+}
+
+static inline void put_number(uint32_t n)
+{
+    char *p = out += places(n);
+    for (; n >= 100; n /= 100)
+        memcpy(p -= 2, pairs + n % 100 * 2, 2);
+    if (n >= 10)
+        memcpy(p - 2, pairs + n * 2, 2);
+    else
+        p[-1] = '0' + n;
+}
+
+#define PUT(text) (memcpy(out, text, sizeof text - 1), out += sizeof text - 1)
+#define PUT_FIELD(key, n) (PUT(key), put_number(n))
+
+// ---- one station ----
+
+// F0, F2 and F3: Q, and the word that is read. X is 1 where A is below r.
+static inline bool read_word(struct station *m, uint32_t a, uint32_t f, uint32_t *word)
+{
+    *word = 0;
+    if (a >= m->r || (m->kind == BUFFER && m->fill == 0))
+        return false;
+    uint32_t *place = &m->word[m->kind == BUFFER ? m->head : a];
+    *word = f == 3 ? WORD_MAX - *place : *place;
+    if (f == 2) {
+        *place = 0;
+        if (m->kind == BUFFER) {
+            m->head = (m->head + 1) % 16;
+            if (--m->fill == 0)
+                m->status &= ~1u;
+        }
+    }
+    return true;
+}
+
+// F9 at A below r.
+static void clear(struct station *m, uint32_t a)
+{
+    if (m->kind == BUFFER) {
+        memset(m->word, 0, sizeof m->word);
+        m->head = m->fill = 0;
+        m->status &= ~1u;
+    } else
+        m->word[a] = 0;
+}
+
+// A scaler's sum, with the carry into its status bit.
+static void count(struct station *m, uint32_t a, uint32_t v)
+{
+    uint32_t sum = m->word[a] + v;
+    m->word[a] = sum % MODULUS;
+    m->status |= (sum >= MODULUS) << a;
+}
+
+static struct reply command(struct station *m, uint32_t a, uint32_t f, uint32_t w)
+{
+    const struct reply none = {0, 0, 0};
+    struct reply reply = {1, 1, 0};
+    bool below_r = a < m->r, below_s = a < m->s;
+    uint32_t sources = (1u << m->s) - 1; // a mask of the bits that belong to sources
+
+    switch (f) {
+    case 0:
+    case 2:
+    case 3:
+        reply.x = below_r;
+        reply.q = read_word(m, a, f, &reply.r);
+        return reply;
+    case 9:
+        if (!below_r)
+            return none;
+        clear(m, a);
+        return reply;
+    case 16:
+        if (!below_r || (m->kind != OUTPUT && m->kind != COUNTER))
+            return none;
+        m->word[a] = w;
+        return reply;
+    case 18:
+    case 21:
+        if (!below_r || m->kind != OUTPUT)
+            return none;
+        m->word[a] = f == 18 ? m->word[a] | w : m->word[a] & ~w;
+        return reply;
+    case 25:
+        if (!below_r || m->kind != SCALER)
+            return none;
+        count(m, a, 1);
+        return reply;
+    case 8:
+        if (!below_s)
+            return none;
+        reply.q = (m->status & m->mask) >> a & 1;
+        return reply;
+    case 27:
+        if (!below_s)
+            return none;
+        reply.q = m->status >> a & 1;
+        return reply;
+    case 10:
+        if (!below_s)
+            return none;
+        m->status &= ~(1u << a);
+        return reply;
+    case 24:
+        if (!below_s)
+            return none;
+        m->mask &= ~(1u << a);
+        return reply;
+    case 26:
+        if (!below_s)
+            return none;
+        m->mask |= 1u << a;
+        return reply;
+    case 1:
+        if (!m->s || a < 12 || a > 14)
+            return none;
+        reply.r = a == 12 ? m->status : a == 13 ? m->mask : m->status & m->mask;
+        return reply;
+    case 11:
+    case 23: // F11 clears all that F23 would with a W of ones
+        if (!m->s || a < 12 || a > 13)
+            return none;
+        *(a == 12 ? &m->status : &m->mask) &= f == 11 ? 0 : ~w;
+        return reply;
+    case 17:
+    case 19:
+        if (!m->s || a != 13)
+            return none;
+        m->mask = (f == 17 ? 0 : m->mask) | (w & sources);
+        return reply;
+    default:
+        return none;
+    }
+}
+
+// A 24-bit word as a signed number.
+static int32_t as_signed(uint32_t word)
+{
+    return word < MODULUS / 2 ? (int32_t)word : (int32_t)word - MODULUS;
+}
+
+// A front event with Inhibit at 0: whether it was taken.
+static bool front(struct station *m, uint32_t a, uint32_t v)
+{
+    if (a >= m->r)
+        return false;
+    switch (m->kind) {
+    case SCALER:
+        count(m, a, v);
+        return true;
+    case INPUT:
+        m->word[a] = v;
+        m->status |= 1u << a;
+        return true;
+    case COUNTER: {
+        int32_t old = as_signed(m->word[a]), sum = old + as_signed(v);
+        m->word[a] = (uint32_t)sum % MODULUS;
+        if (sum < -MODULUS / 2 || sum >= MODULUS / 2 || (sum == 0 && old != 0))
+            m->status |= 1u << a;
+        return true;
+    }
+    case BUFFER:
+        if (m->fill == 16) {
+            m->status |= 2;
+            return false;
+        }
+        m->word[(m->head + m->fill++) % 16] = v;
+        m->status |= 1;
+        return true;
+    default:
+        return false;
+    }
+}
+
+// ---- the steps: each puts what it prints after `step=K`, or answers a refusal number ----
+
+static uint32_t bad_address(uint32_t n, uint32_t a)
+{
+    return n < 1 || n > STATIONS ? NO_SUCH_STATION : a > 15 ? NO_SUCH_SUBADDRESS : 0;
+}
+
+static uint32_t bad_transfer(uint32_t n, uint32_t a, uint32_t f)
+{
+    uint32_t bad = bad_address(n, a);
+    return bad ? bad : f != 0 && f != 2 && f != 3 ? NO_SUCH_FUNCTION : 0;
+}
+
+static bool bad_length(uint32_t n, uint32_t most)
+{
+    return n < 1 || n > most;
+}
+
+static uint32_t do_naf(uint32_t n, uint32_t a, uint32_t f, uint32_t w)
+{
+    uint32_t bad = bad_address(n, a);
+    if (bad)
+        return bad;
+    if (f > 31)
+        return NO_SUCH_FUNCTION;
+    if (w > WORD_MAX)
+        return OVERWIDE_WORD;
+    struct reply reply = command(&crate[n], a, f, w);
+    PUT_FIELD(" x=", reply.x);
+    PUT_FIELD(" q=", reply.q);
+    PUT_FIELD(" r=", reply.r);
+    return 0;
+}
+
+static uint32_t do_front(uint32_t n, uint32_t a, uint32_t v)
+{
+    uint32_t bad = bad_address(n, a);
+    if (bad)
+        return bad;
+    if (v > WORD_MAX)
+        return OVERWIDE_WORD;
+    PUT_FIELD(" taken=", !inhibit && front(&crate[n], a, v));
+    return 0;
+}
+
+static uint32_t do_z(void)
+{
+    for (struct station *m = crate + 1; m <= crate + STATIONS; m++) {
+        m->status = m->mask = m->head = m->fill = 0;
+        memset(m->word, 0, sizeof m->word);
+    }
+    inhibit = 1;
+    PUT(" done=1");
+    return 0;
+}
+
+static uint32_t do_c(void)
+{
+    for (struct station *m = crate + 1; m <= crate + STATIONS; m++)
+        for (uint32_t a = 0; a < m->r; a++)
+            clear(m, a);
+    PUT(" done=1");
+    return 0;
+}
+
+static uint32_t do_i(uint32_t v)
+{
+    if (v > 1)
+        return OVERWIDE_WORD;
+    inhibit = v;
+    PUT(" done=1");
+    return 0;
+}
+
+static uint32_t do_lam(void)
+{
+    uint32_t l = 0;
+    for (int n = 1; n <= STATIONS; n++)
+        l |= (uint32_t)((crate[n].status & crate[n].mask) != 0) << (n - 1);
+    PUT_FIELD(" l=", l);
+    PUT_FIELD(" count=", __builtin_popcount(l));
+    PUT_FIELD(" first=", l ? __builtin_ctz(l) + 1 : 0);
+    return 0;
+}
+
+static void put_transfer(uint32_t end, const uint32_t *words, uint32_t stored, uint32_t cycles)
+{
+    PUT_FIELD(" end=", end);
+    PUT_FIELD(" words=", stored);
+    PUT_FIELD(" cycles=", cycles);
+    for (uint32_t i = 0; i < stored; i++) {
+        PUT_FIELD("\nword=", words[i]);
+        make_room();
+    }
+}
+
+static uint32_t do_scan(uint32_t n, uint32_t a, uint32_t f, uint32_t to, uint32_t limit)
+{
+    uint32_t bad = bad_transfer(n, a, f), words[MOST_WORDS], stored = 0, cycles = 0;
+    if (bad)
+        return bad;
+    if (to < n || to > STATIONS)
+        return CROSSED_RANGE;
+    if (bad_length(limit, MOST_WORDS))
+        return BAD_LENGTH;
+    while (stored < limit && n <= to) {
+        bool q = read_word(&crate[n], a, f, &words[stored]);
+        cycles++;
+        stored += q;
+        if (q && a < 15)
+            a++;
+        else {
+            n++;
+            a = 0;
+        }
+    }
+    put_transfer(stored == limit ? 1 : 2, words, stored, cycles);
+    return 0;
+}
+
+static uint32_t do_repeat(uint32_t n, uint32_t a, uint32_t f, uint32_t limit, uint32_t tries)
+{
+    uint32_t bad = bad_transfer(n, a, f), words[MOST_WORDS], stored = 0, cycles = 0;
+    if (bad)
+        return bad;
+    if (bad_length(limit, MOST_WORDS) || bad_length(tries, 4096))
+        return BAD_LENGTH;
+    for (; stored < limit && cycles < tries; cycles++)
+        stored += read_word(&crate[n], a, f, &words[stored]);
+    put_transfer(stored == limit ? 1 : 2, words, stored, cycles);
+    return 0;
+}
+
+static uint32_t do_stop(uint32_t n, uint32_t a, uint32_t f, uint32_t limit)
+{
+    uint32_t bad = bad_transfer(n, a, f), words[MOST_WORDS], stored = 0, cycles = 0;
+    if (bad)
+        return bad;
+    if (bad_length(limit, MOST_WORDS))
+        return BAD_LENGTH;
+    for (bool q = true; q && stored < limit; cycles++)
+        stored += q = read_word(&crate[n], a, f, &words[stored]);
+    put_transfer(stored == limit ? 1 : 2, words, stored, cycles);
+    return 0;
+}
+
+// ---- lines: every line read stands before an LF, which no key or number holds ----
+
+// The place after a key and its number, or NULL.
+static inline const char *field(const char *p, const char *key, size_t length, uint32_t *value)
+{
+    if (memcmp(p, key, length) != 0)
+        return NULL;
+    p += length;
+    uint32_t v = (uint8_t)*p - '0';
+    if (v > 9)
+        return NULL;
+    for (uint32_t digit; (digit = (uint8_t)*++p - '0') <= 9; v = v * 10 + digit)
+        if (v == 0 || v >= 10000000)
+            return NULL;
+    *value = v;
+    return p;
+}
+
+#define WORD(text) (memcmp(p, text, sizeof text - 1) == 0 && (p += sizeof text - 1))
+#define FIELD(key, value) ((p = field(p, key, sizeof key - 1, &(value))) != NULL)
+#define END() (*p == '\n')
+
+// Reads and does the step of a run line: 0, or a refusal number. The longest line in form has 72 bytes, so that none over 80 is.
+static uint32_t run_line(const char *p)
+{
+    uint32_t n, a, f, w, to, limit, tries;
+
+    if (!WORD("op="))
+        return GARBLED;
+    switch (*p) {
+    case 'n':
+        if (FIELD("naf n=", n) && FIELD(" a=", a) && FIELD(" f=", f) && FIELD(" w=", w) && END())
+            return do_naf(n, a, f, w);
+        return GARBLED;
+    case 'f':
+        if (FIELD("front n=", n) && FIELD(" a=", a) && FIELD(" v=", w) && END())
+            return do_front(n, a, w);
+        return GARBLED;
+    case 'z':
+        return WORD("z\n") ? do_z() : GARBLED;
+    case 'c':
+        return WORD("c\n") ? do_c() : GARBLED;
+    case 'i':
+        return FIELD("i v=", w) && END() ? do_i(w) : GARBLED;
+    case 'l':
+        return WORD("lam\n") ? do_lam() : GARBLED;
+    case 's':
+        if (p[1] == 'c') {
+            if (FIELD("scan n=", n) && FIELD(" a=", a) && FIELD(" f=", f) && FIELD(" to=", to) && FIELD(" limit=", limit) && END())
+                return do_scan(n, a, f, to, limit);
+        } else if (FIELD("stop n=", n) && FIELD(" a=", a) && FIELD(" f=", f) && FIELD(" limit=", limit) && END())
+            return do_stop(n, a, f, limit);
+        return GARBLED;
+    case 'r':
+        if (FIELD("repeat n=", n) && FIELD(" a=", a) && FIELD(" f=", f) && FIELD(" limit=", limit) && FIELD(" tries=", tries) && END())
+            return do_repeat(n, a, f, limit, tries);
+        return GARBLED;
+    default:
+        return GARBLED;
+    }
+}
+
+static bool take_run_line(const char *line, uint32_t k)
+{
+    make_room();
+    PUT_FIELD("step=", k);
+    uint32_t refused = run_line(line);
+    if (refused)
+        PUT_FIELD(" refused=", refused);
+    PUT("\n");
+    return true;
+}
+
+// Reads a crate line and puts its module in: 0, or a refusal number.
+static uint32_t crate_line(const char *p)
+{
+    static uint32_t previous;
+    uint32_t n, kind, r;
+
+    if (!(FIELD("n=", n) && FIELD(" kind=", kind) && FIELD(" r=", r) && END()))
+        return GARBLED;
+    if (n < 1 || n > STATIONS)
+        return NO_SUCH_STATION;
+    if (n <= previous)
+        return OUT_OF_ORDER;
+    if (kind < SCALER || kind > COUNTER || r < 1 || r > (kind == BUFFER ? 1 : 16))
+        return BAD_MODULE;
+    previous = n;
+    crate[n] = (struct station){.kind = kind, .r = r, .s = kind == OUTPUT ? 0 : kind == BUFFER ? 2 : r};
+    return 0;
+}
+
+static bool take_crate_line(const char *line, uint32_t k)
+{
+    uint32_t refused = crate_line(line);
+    if (refused) {
+        PUT_FIELD("crate=", k);
+        PUT_FIELD(" refused=", refused);
+        PUT("\n");
+    }
+    return !refused;
+}
+
+// ---- the program ----
+
+// Hands each line of a file to `take` until that answers false, which is then the answer. A missing file is empty.
+static inline bool take_file(const char *name, bool take(const char *line, uint32_t k))
+{
+    enum { PART = 1 << 16, PAST = 16 }; // a key may be compared past the last LF
+    static char text[PART + PAST];
+    size_t fill = 0;
+    ssize_t got = 1;
+    uint32_t k = 1;
+    int file = open(name, O_RDONLY);
+
+    if (file < 0) {
+        if (errno != ENOENT)
+            perror(name);
+        return true;
+    }
+    while (got > 0 && k <= LAST_LINE) {
+        got = read(file, text + fill, PART - fill);
+        if (got < 0)
+            perror(name);
+        else
+            fill += got;
+        if (got <= 0 && fill > 0)
+            text[fill++] = '\n';
+        char *past = memrchr(text, '\n', fill), *line = text;
+        past = past ? past + 1 : text;
+        for (; line < past && k <= LAST_LINE; k++) {
+            if (!take(line, k))
+                return false;
+            line = (char *)rawmemchr(line, '\n') + 1;
+        }
+        fill = text + fill - past;
+        memmove(text, past, fill);
+        if (fill == PART) // all of one line, which is garbled: it is enough to keep that it is too long
+            fill = LONGEST_LINE + 1;
+    }
+    close(file);
+    return true;
+}
+
+int main(int count, char **names)
+{
+    if (take_file(count == 3 ? names[1] : "crate.txt", take_crate_line))
+        take_file(count == 3 ? names[2] : "run.txt", take_run_line);
+    flush();
+    return 0;
+}

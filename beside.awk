@@ -1,0 +1,102 @@
+# Prints each line of run.txt, in the current folder, with its answer in words beside it. The sheet comes on standard input, with
+# failed= after it where the program did not run to its end. Sheet and run.txt are read side by side, so that neither is ever held whole.
+
+BEGIN {
+    FS = "[ =]"
+    widest = 44  # of the lines that are not refused
+    run = lines("run.txt")
+    table = "cat"  # says what it cannot write; not every awk does
+
+    said["done=1"] = "done"
+    said["taken=1"] = "taken"
+    said["taken=0"] = "not taken"
+
+    end2["op=scan"] = "past `to`"
+    end2["op=repeat"] = "tries used up"
+    end2["op=stop"] = "Q = 0"
+
+    meaning[1] = "garbled"
+    meaning[2] = "no such station: N is outside 1 to 23"
+    meaning[3] = "no such subaddress: A is above 15"
+    meaning[4] = "no such function: F is above 31, or in a transfer not 0, 2 or 3"
+    meaning[5] = "overwide word: w or v is above 16777215, or v of I above 1"
+    meaning[6] = "crossed range: `to` is below N or above 23"
+    meaning[7] = "bad length: limit is outside 1 to 512, or tries outside 1 to 4096"
+    meaning[10] = "bad module: kind is outside 1 to 5, or r is not of its kind"
+    meaning[11] = "out of order: the station is not above that of the line before"
+}
+
+$1 == "step" { row(run, "none of the nine forms") }
+
+$1 == "crate" {
+    row(lines("crate.txt"), "not n= kind= r=")
+    print "crate.txt is refused at this line; nothing was run" | table
+}
+
+$1 == "failed" { exit 1 }
+
+END { if (NR > 0 && close(table) != 0) exit 1 }
+
+# The command that gives the lines of a file: no more than are read, and of each no more than shows that it is too long.
+# A byte that is no sign of ASCII becomes ?, but for CR.
+function lines(file) {
+    return "{ head -n 99999 " file " | tr -c '\\n\\r -~' '?' | cut -b 1-81; } 2>/dev/null"
+}
+
+# Line $2 of a file, and beside it what the sheet says of it.
+function row(file, misfit,    number, line, words) {
+    number = $2
+    while (read < number && (file | getline line) > 0) read++
+    words = answer(line, misfit)
+    gsub(/\r/, "^M", line)
+    if (length(line) > widest) line = substr(line, 1, widest - 2) ".."
+    printf "%5d  %-" widest "s  %s\n", number, line, words | table
+}
+
+# An answer that has no words here is shown as the sheet has it.
+function answer(line, misfit,    words) {
+    if (($3 "=" $4) in said) return said[$3 "=" $4]
+    if ($3 == "x") return "X=" $4 " Q=" $6 " R=" $8 ($4 == 1 ? "" : ", not accepted")
+    if ($3 == "l") return "L=" $4 ", " requests($4, $6)
+    if ($3 == "end") {
+        words = ended($4, line) ": " counted($6, "word") " in " counted($8, "cycle")
+        return words stored($6)
+    }
+    if ($3 == "refused" && $4 in meaning) return "refused (" $4 "): " meaning[$4] ($4 == 1 ? ": " fault(line, misfit) : "")
+    return substr($0, index($0, " ") + 1)
+}
+
+function requests(l, count,    n, stations) {
+    if (count == 0) return "no station requests"
+    for (n = 1; l > 0; n++) {
+        if (l % 2 == 1) stations = stations " " n
+        l = int(l / 2)
+    }
+    return count (count == 1 ? " station requests:" : " stations request:") stations
+}
+
+function ended(end, line) {
+    return end == 1 ? "limit reached" : end2[substr(line, 1, index(line, " ") - 1)]
+}
+
+function counted(count, thing) {
+    return count " " thing (count == 1 ? "" : "s")
+}
+
+# The words of a transfer: the sheet's next lines.
+function stored(count,    words) {
+    if (count > 0) words = ":"
+    while (count-- > 0 && getline > 0 && /^word=/) words = words " " substr($0, 6)
+    return words
+}
+
+# What is wrong with a garbled line, where it is plain to see.
+function fault(line, misfit) {
+    if (line == "") return "the line is empty"
+    if (length(line) > 80) return "over 80 bytes"
+    if (line ~ /\r$/) return "a CR before the LF; tr -d '\\r' mends the file"
+    if (line ~ /^ |  | $/) return "a space too many"
+    if (line ~ /=0[0-9]/) return "a leading zero"
+    if (line ~ /[0-9][0-9][0-9][0-9][0-9][0-9][0-9][0-9][0-9]/) return "over 8 digits"
+    return misfit
+}

@@ -1,0 +1,35 @@
+-- `in_table` meets its contract: its tests are those of the definition, in their order.
+use borrow.Author.Tests.{lt-ltb, le-ltb, le-leb, lt-leb}
+use borrow.Author.Needs.{needs}
+use Rattle.kinds.specs.Table.{inTable}
+use Rattle.kinds.proofs.in_table.Statement.{statement}
+use Rattle.kinds.proofs.in_table.Tie as tie
+
+returns : tie.Need-returns
+unfolding inTable
+returns c = simp (le-ltb _ _ (c .if1 .taken))
+
+mul-if2 : tie.Need-mul-if2
+mul-if2 c = search needs
+
+array-read-if2 : tie.Need-array-read-if2
+array-read-if2 c = search needs
+
+returns-2 : tie.Need-returns-2
+unfolding inTable
+returns-2 c = simp (lt-ltb _ _ (c .before .if1 .left), lt-leb _ _ (c .if2 .taken))
+
+mul-result : tie.Need-mul-result
+mul-result c = search needs
+
+array-read-result : tie.Need-array-read-result
+array-read-result c = search needs
+
+returns-3 : tie.Need-returns-3
+unfolding inTable
+returns-3 c = simp (lt-ltb _ _ (c .before .if1 .left), le-leb _ _ (c .if2 .left))
+
+pub in-table-spec : {M : Type 1} → statement M
+in-table-spec =
+    tie.close
+    (tie.spec returns mul-if2 array-read-if2 returns-2 mul-result array-read-result returns-3)

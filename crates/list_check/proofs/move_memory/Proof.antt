@@ -1,0 +1,48 @@
+-- `move_memory` is safe and ends, and the words keep their length: each turn sets one.
+use Prim.Native.Nat.{_-_}
+use mathlib.Core.Path.{_≡_}
+use borrow.Author.Needs.{needs}
+use lib.ListN.{length}
+use Rattle.list_check.proofs.move_memory.Statement.{statement}
+use Rattle.list_check.proofs.move_memory.Tie as tie
+
+abbrev Inv-loop : tie.InvT-loop
+Inv-loop words₀ from to i₀ words i = length words ≡ length words₀
+
+abbrev μ-loop : tie.MeasureT-loop
+μ-loop words₀ from to i₀ words i = 769 - i
+
+loop-holds : tie.Need-loop-holds Inv-loop μ-loop
+loop-holds c = search needs
+
+add-set : tie.Need-add-set Inv-loop μ-loop
+add-set c = search needs
+
+add-word : tie.Need-add-word Inv-loop μ-loop
+add-word c = search needs
+
+word-requires : tie.Need-word-requires Inv-loop μ-loop
+word-requires c κs = search needs
+
+set-requires : tie.Need-set-requires Inv-loop μ-loop
+set-requires c κs = search needs
+
+add-i : tie.Need-add-i Inv-loop μ-loop
+add-i c = search needs
+
+loop-less : tie.Need-loop-less Inv-loop μ-loop
+loop-less c = search needs
+
+loop-again : tie.Need-loop-again Inv-loop μ-loop
+loop-again c = search needs
+
+same-length : tie.Need-same-length Inv-loop μ-loop
+same-length c = search needs
+
+returns : tie.Need-returns Inv-loop μ-loop
+returns c = search needs
+
+pub move-memory-spec : {M : Type 1} → statement M
+move-memory-spec =
+    tie.close
+    (tie.spec Inv-loop μ-loop loop-holds add-set add-word word-requires set-requires add-i loop-less loop-again same-length returns)

@@ -1,0 +1,477 @@
+// Calls the open calls with what no file can lend: crates that are not fit, too few words, buffers whose words show what is left alone, buffer memories with
+// any head. Standard input says what is lent and called, line by line; cases.md says what each case shows and why its numbers are these.
+use controller::Answer;
+use libc::STDIN_FILENO;
+use libc::STDOUT_FILENO;
+use step::Reading;
+use step::Verdict;
+ghost use Prim.Native.Nat.{_≤_};
+ghost use lib.ListN.{length};
+
+// The stored input fits.
+const ROOM: usize = 16384;
+
+// One word more than a crate has.
+const MEMORY_WORDS: usize = 769;
+
+// The memory, and behind it the one that is kept.
+const BOTH_WORDS: usize = 1538;
+
+// Lists have at most twenty steps.
+const LIST_STEPS: usize = 20;
+
+const LIST_WORDS: usize = 120;
+
+// The list, and behind it the four steps of a second.
+const BOTH_STEPS: usize = 24;
+
+const BOTH_LISTS: usize = 144;
+
+const ANSWERS_WORDS: usize = 80;
+
+const BUFFERS_WORDS: usize = 10240;
+
+// The words of a single transfer's buffer.
+const ONE_BUFFER: usize = 16;
+
+// What answers and buffers hold before a call, so that it shows which words the call stores.
+const MARK: u32 = 77;
+
+// ---- words
+// Word i, or 0 past the end.
+fn word(words: &[u32], i: usize) -> u32 {
+    if i < words.len() { words[i] } else { 0 }
+}
+
+fn place(words: &[u32], i: usize) -> usize {
+    word(words, i) as usize
+}
+
+fn set(words: &mut [u32], i: usize, x: u32) {
+    if i < words.len() {
+        words[i] = x;
+    }
+}
+
+fn copy(from: &[u32], to: &mut [u32]) {
+    for i in 0..to.len() {
+        set(to, i, word(from, i));
+    }
+}
+
+// Copies a memory's words within the two.
+fn move_memory(words: &mut [u32], from: usize, to: usize)
+    requires { ⌜ (from ≤ 769) × (to ≤ 769) ⌝ }
+{
+    for i in 0..MEMORY_WORDS {
+        set(words, to + i, word(words, from + i));
+    }
+}
+
+// 1 where word i is not what it was before, else 0.
+fn change(before: &[u32], words: &[u32], i: usize) -> usize
+    ensures { λ r. ⌜ r ≤ 1 ⌝ }
+{
+    if word(before, i) != word(words, i) {
+        1
+    } else {
+        0
+    }
+}
+
+// How many words are not what they were before.
+fn changes(before: &[u32], words: &[u32]) -> usize {
+    let mut count = 0;
+    for i in 0..words.len() {
+        count += change(before, words, i);
+    }
+    count
+}
+
+// The lesser of a and b.
+fn least(a: usize, b: usize) -> usize
+    ensures { λ r. ⌜ r ≤ b ⌝ }
+{
+    if a < b { a } else { b }
+}
+
+fn number(verdict: Verdict) -> u32 {
+    match verdict {
+        Verdict::Fine => 0,
+        Verdict::Refuse(q) => step::refusal_number(q),
+    }
+}
+
+// ---- what is printed
+fn show(key: &[u8], n: u32) {
+    io::write_all(STDOUT_FILENO, key);
+    io::print_decimal(STDOUT_FILENO, n as u64);
+}
+
+fn end_line() {
+    io::write_all(STDOUT_FILENO, b"\n");
+}
+
+fn show_changes(key: &[u8], before: &[u32], words: &[u32]) {
+    io::write_all(STDOUT_FILENO, key);
+    io::print_decimal(STDOUT_FILENO, changes(before, words) as u64);
+}
+
+fn show_word(words: &[u32], i: usize) {
+    show(b" ", word(words, i));
+}
+
+fn show_words(sign: &[u8], words: &[u32], from: usize, to: usize) {
+    io::write_all(STDOUT_FILENO, sign);
+    for i in from..to {
+        show_word(words, i);
+    }
+}
+
+// The answer to step k, and of a transfer the first four words of its buffer.
+fn show_answer(answers: &[u32], buffers: &[u32], k: usize) {
+    if k < LIST_STEPS {
+        let at = 4 * k;
+        show_words(b" |", answers, at, at + 4);
+        if word(answers, at) == 5 {
+            let from = 512 * k;
+            show_words(b" :", buffers, from, from + 4);
+        }
+    }
+}
+
+fn show_answers(answers: &[u32], buffers: &[u32], count: usize) {
+    for k in 0..count {
+        show_answer(answers, buffers, k);
+    }
+}
+
+// How many steps of a list have an answer, where the verdict on the run is n.
+fn answered(n: u32, count: usize) -> usize {
+    if n == 0 { count } else { 0 }
+}
+
+fn show_verdict(case: u32, n: u32) {
+    show(b"case=", case);
+    show(b" verdict=", n);
+}
+
+fn show_run(case: u32, n: u32, count: usize, answers: &[u32], buffers: &[u32]) {
+    show_verdict(case, n);
+    show_answers(answers, buffers, answered(n, count));
+}
+
+fn show_marks(marks: &[u32], answers: &[u32], buffers: &[u32]) {
+    show_changes(b" answers=", marks, answers);
+    show_changes(b" buffers=", marks, buffers);
+}
+
+// The verdict on one of two lists, and its four answers.
+fn show_half(key: &[u8], verdict: Verdict, answers: &[u32], buffers: &[u32]) {
+    show(key, number(verdict));
+    show_answers(answers, buffers, 4);
+}
+
+// ---- the calls
+// A list on the first `long` words of the memory, lent the first s words of steps, a of answers and b of buffers.
+fn run_lent(
+    memory: &mut [u32],
+    long: usize,
+    count: usize,
+    steps: &[u32],
+    s: usize,
+    answers: &mut [u32],
+    a: usize,
+    buffers: &mut [u32],
+    b: usize,
+) -> Verdict {
+    let long = least(long, memory.len());
+    let s = least(s, steps.len());
+    let a = least(a, answers.len());
+    let b = least(b, buffers.len());
+    rehearsal::run_list(
+        &mut memory[..long],
+        count,
+        &steps[..s],
+        &mut answers[..a],
+        &mut buffers[..b],
+    )
+}
+
+// The verdict on it, its answers, and how many words it changed.
+fn run(
+    case: u32,
+    count: usize,
+    memory: &mut [u32],
+    long: usize,
+    steps: &[u32],
+    s: usize,
+    a: usize,
+    b: usize,
+) {
+    let marks = [MARK; BUFFERS_WORDS];
+    let mut before = [0u32; BOTH_WORDS];
+    copy(memory, &mut before);
+    let mut answers = [MARK; ANSWERS_WORDS];
+    let mut buffers = marks;
+    let verdict = run_lent(
+        memory,
+        long,
+        count,
+        steps,
+        s,
+        &mut answers,
+        a,
+        &mut buffers,
+        b,
+    );
+    show_run(case, number(verdict), count, &answers, &buffers);
+    show_changes(b" memory=", &before, memory);
+    show_marks(&marks, &answers, &buffers);
+    end_line();
+}
+
+// The step of a line by `run_step`, or the line by `run_line`.
+fn call(as_step: bool, memory: &mut [u32], line: &[u8], buffer: &mut [u32]) -> Answer {
+    if as_step {
+        if let Reading::Good(step) = runfile::read_line(line) {
+            return rehearsal::run_step(memory, step, buffer);
+        }
+    }
+    rehearsal::run_line(memory, line, buffer)
+}
+
+fn call_lent(
+    as_step: bool,
+    memory: &mut [u32],
+    line: &[u8],
+    buffer: &mut [u32],
+    lent: usize,
+) -> Answer {
+    let lent = least(lent, buffer.len());
+    call(as_step, memory, line, &mut buffer[..lent])
+}
+
+// The four words of an answer and what follows them.
+fn show_one(case: u32, answer: Answer, buffer: &[u32]) {
+    let mut words = [0u32; 4];
+    lists::write_answer(&mut words, answer);
+    show(b"case=", case);
+    show_answer(&words, buffer, 0);
+}
+
+// The answer of a step or a line with the first `lent` words of a buffer full of y, and how many words it changed.
+fn one(case: u32, as_step: bool, memory: &[u32], line: &[u8], lent: usize, y: u32) {
+    let mut m = [0u32; 768];
+    copy(memory, &mut m);
+    let full = [y; ONE_BUFFER];
+    let mut buffer = full;
+    let answer = call_lent(as_step, &mut m, line, &mut buffer, lent);
+    show_one(case, answer, &buffer);
+    show_changes(b" memory=", memory, &m);
+    show_changes(b" buffer=", &full, &buffer);
+    end_line();
+}
+
+// Two lists of four steps on equal crates, but for I, which is x in the second.
+fn pair(case: u32, memory: &[u32], x: u32, steps: &[u32], second: &[u32]) {
+    let mut m1 = [0u32; 768];
+    copy(memory, &mut m1);
+    let mut m2 = m1;
+    set(&mut m2, 0, x);
+    let mut a1 = [MARK; 16];
+    let mut a2 = [MARK; 16];
+    let mut b1 = [MARK; 2048];
+    let mut b2 = [MARK; 2048];
+    let pair = rehearsal::run_pair(
+        &mut m1,
+        4,
+        steps,
+        &mut a1,
+        &mut b1,
+        &mut m2,
+        4,
+        second,
+        &mut a2,
+        &mut b2,
+    );
+    let v1 = pair.first;
+    let v2 = pair.second;
+    show(b"case=", case);
+    show_half(b" first=", v1, &a1, &b1);
+    show_half(b" second=", v2, &a2, &b2);
+    show_changes(b" differ=", &m1, &m2);
+    end_line();
+}
+
+fn two_lists(case: u32, memory: &[u32], x: u32, steps: &[u32]) {
+    if LIST_WORDS <= steps.len() {
+        let second = &steps[LIST_WORDS..];
+        pair(case, memory, x, steps, second);
+    }
+}
+
+fn module(case: u32, memory: &[u32], previous: u32, line: &[u8]) {
+    let mut m = [0u32; 768];
+    copy(memory, &mut m);
+    let verdict = rehearsal::crate_line(&mut m, previous, line);
+    show_verdict(case, number(verdict));
+    show_changes(b" memory=", memory, &m);
+    end_line();
+}
+
+// ---- the lines of standard input
+// The count of steps: its lower 32 bits stand in number 2, the upper in number 7.
+fn count_of(numbers: &[u32]) -> usize {
+    word(numbers, 7) as usize * 4294967296 + word(numbers, 2) as usize
+}
+
+// Status, mask, head and fill of the buffer memory, and its sixteen words.
+fn view(case: u32, memory: &[u32]) {
+    show(b"case=", case);
+    show_words(b" ;", memory, 130, 134);
+    show_words(b" ;", memory, 144, 160);
+    end_line();
+}
+
+fn do_call(op: u8, numbers: &[u32], text: &[u8], memory: &mut [u32], steps: &[u32]) {
+    let case = word(numbers, 1);
+    match op {
+        b'L' => {
+            run(
+                case,
+                count_of(numbers),
+                memory,
+                place(numbers, 3),
+                steps,
+                place(numbers, 4),
+                place(numbers, 5),
+                place(numbers, 6),
+            );
+        }
+        b'V' => {
+            view(case, memory);
+        }
+        b'O' | b'R' => {
+            one(
+                case,
+                op == b'O',
+                memory,
+                text,
+                place(numbers, 2),
+                word(numbers, 3),
+            );
+        }
+        b'P' => {
+            two_lists(case, memory, word(numbers, 2), steps);
+        }
+        b'C' => {
+            module(case, memory, word(numbers, 2), text);
+        }
+        _ => {}
+    }
+}
+
+// Six numbers, from number 2 on, as the words of step k, which number 1 says.
+fn put(steps: &mut [u32], numbers: &[u32]) {
+    let k = place(numbers, 1);
+    if k < BOTH_STEPS {
+        for j in 0..6 {
+            set(steps, 6 * k + j, word(numbers, j + 2));
+        }
+    }
+}
+
+fn prepare(op: u8, numbers: &[u32], memory: &mut [u32], steps: &mut [u32]) {
+    match op {
+        b'w' => {
+            set(memory, place(numbers, 1), word(numbers, 2));
+        }
+        b's' => {
+            put(steps, numbers);
+        }
+        b'k' => {
+            move_memory(memory, 0, MEMORY_WORDS);
+        }
+        b'g' => {
+            move_memory(memory, MEMORY_WORDS, 0);
+        }
+        _ => {}
+    }
+}
+
+// 1 at a space, else 0.
+fn space(byte: u8) -> usize
+    ensures { λ r. ⌜ r ≤ 1 ⌝ }
+{
+    if byte == b' ' { 1 } else { 0 }
+}
+
+// Appends a digit to number k.
+fn push_digit(numbers: &mut [u32], k: usize, byte: u8) {
+    if b'0' <= byte {
+        if byte <= b'9' {
+            let wide = word(numbers, k) as u64 * 10 + (byte - 48) as u64;
+            if wide <= 4294967295 {
+                set(numbers, k, wide as u32);
+            }
+        }
+    }
+}
+
+// The numbers of a line, with spaces between.
+fn read_numbers(line: &[u8], numbers: &mut [u32]) {
+    let mut k = 0;
+    for i in 0..line.len() {
+        let byte = line[i];
+        k += space(byte);
+        push_digit(numbers, k, byte);
+    }
+}
+
+fn first(line: &[u8]) -> u8 {
+    if 0 < line.len() { line[0] } else { 0 }
+}
+
+fn do_line(line: &[u8], text: &[u8], memory: &mut [u32], steps: &mut [u32]) {
+    let op = first(line);
+    let mut numbers = [0u32; 8];
+    read_numbers(line, &mut numbers);
+    prepare(op, &numbers, memory, steps);
+    do_call(op, &numbers, text, memory, steps);
+}
+
+// Where the line that begins at start ends: at the next LF, or at the end.
+fn line_end(input: &[u8], start: usize) -> usize
+    requires { ⌜ start ≤ length (now input) ⌝ }
+    ensures { λ r. ⌜ (start ≤ r) × (r ≤ length (now (input .entry))) ⌝ }
+{
+    let mut i = start;
+    while i < input.len() {
+        if input[i] == b'\n' {
+            return i;
+        }
+        i += 1;
+    }
+    i
+}
+
+// Each line with the one after it, which is the text of a step, a line or a module where a call takes one.
+fn do_lines(input: &[u8], memory: &mut [u32], steps: &mut [u32]) {
+    let mut start = 0;
+    while start < input.len() {
+        let end = line_end(input, start);
+        let next = least(end + 1, input.len());
+        let last = line_end(input, next);
+        do_line(&input[start..end], &input[next..last], memory, steps);
+        start = end + 1;
+    }
+}
+
+fn main() {
+    let mut input = [0u8; ROOM];
+    let count = io::read_full(STDIN_FILENO, &mut input);
+    let mut memory = [0u32; BOTH_WORDS];
+    let mut steps = [0u32; BOTH_LISTS];
+    do_lines(&input[..count], &mut memory, &mut steps);
+}

@@ -1,0 +1,61 @@
+-- A reading that does not look at its buffer prints and leaves the same with any buffer, so a run line need be lent none for it.
+-- Assumes nothing.
+use Prim.Native.Nat.{ℕ}
+use mathlib.Core.Path.{_≡_, refl, sym, ap, _∙_}
+use mathlib.Core.Bool.{Bool, true, false, false≢true}
+use mathlib.Core.List.{List}
+use Rattle.step.specs.Verdict.{verdictOf}
+use Rattle.step.specs.declared.Reading.{Reading}
+use Rattle.step.specs.declared.Reading.the-variants.{Good, Bad}
+use Rattle.step.specs.declared.Step.the-variants.{Command, Front, Z, C, Inhibit, LookAtMe, Scan, Repeat, Stop}
+use Rattle.step.specs.declared.Verdict.{Verdict}
+use Rattle.step.specs.declared.Verdict.the-variants.{Fine, Refuse}
+use Rattle.controller.specs.Steps.{order, judgedOf, doneOf}
+use Rattle.sheet.specs.Answers.{stepText}
+use Rattle.reader.specs.Reading.{Work, afterStep, usesBuffer}
+
+module _ (b c : List ℕ) where
+  -- it is judged alike
+  judged-alike : (r : Reading) → usesBuffer r ≡ false → verdictOf r b ≡ verdictOf r c
+  judged-alike (Bad q) e = refl
+  judged-alike (Good (Command n a f w)) e = refl
+  judged-alike (Good (Front n a v)) e = refl
+  judged-alike (Good Z) e = refl
+  judged-alike (Good C) e = refl
+  judged-alike (Good (Inhibit v)) e = refl
+  judged-alike (Good LookAtMe) e = refl
+  judged-alike (Good (Scan n a f to limit)) e = absurd (false≢true (sym e))
+  judged-alike (Good (Repeat n a f limit tries)) e = absurd (false≢true (sym e))
+  judged-alike (Good (Stop n a f limit)) e = absurd (false≢true (sym e))
+
+  -- and, with its verdict, it comes to the same
+  done-alike : (v : Verdict) (k : ℕ) (s : Work) (r : Reading) → usesBuffer r ≡ false
+      → afterStep (judgedOf v (s .memory) r b) k s ≡ afterStep (judgedOf v (s .memory) r c) k s
+  unfolding stepText
+  done-alike (Refuse q) k s r e = refl
+  done-alike Fine k s (Bad q) e = refl
+  done-alike Fine k s (Good (Command n a f w)) e = refl
+  done-alike Fine k s (Good (Front n a v)) e = refl
+  done-alike Fine k s (Good Z) e = refl
+  done-alike Fine k s (Good C) e = refl
+  done-alike Fine k s (Good (Inhibit v)) e = refl
+  done-alike Fine k s (Good LookAtMe) e = refl
+  done-alike Fine k s (Good (Scan n a f to limit)) e = absurd (false≢true (sym e))
+  done-alike Fine k s (Good (Repeat n a f limit tries)) e = absurd (false≢true (sym e))
+  done-alike Fine k s (Good (Stop n a f limit)) e = absurd (false≢true (sym e))
+
+  pub unseen : (k : ℕ) (s : Work) (r : Reading) → usesBuffer r ≡ false
+      → afterStep (doneOf (s .memory) (order r b)) k s ≡ afterStep (doneOf (s .memory) (order r c)) k s
+  unfolding doneOf
+  unseen k s r e =
+      ap (λ (v : Verdict). afterStep (judgedOf v (s .memory) r b) k s) (judged-alike r e)
+      ∙ done-alike (verdictOf r c) k s r e
+
+  -- a buffer that is right where it is looked at is as good as the right one
+  pub as-good : (k : ℕ) (s : Work) (r : Reading) → (usesBuffer r ≡ true → b ≡ c)
+      → afterStep (doneOf (s .memory) (order r b)) k s ≡ afterStep (doneOf (s .memory) (order r c)) k s
+  as-good k s r h = go (usesBuffer r) refl
+    where
+      go : (t : Bool) → usesBuffer r ≡ t → afterStep (doneOf (s .memory) (order r b)) k s ≡ afterStep (doneOf (s .memory) (order r c)) k s
+      go true e = ap (λ (x : List ℕ). afterStep (doneOf (s .memory) (order r x)) k s) (h e)
+      go false e = unseen k s r e

@@ -1,0 +1,48 @@
+-- `put_refused` meets its contract: two fields and the rest of the line, put one after the other.
+use native.Mathlib.Omega.{arith}
+use Rattle.text.specs.Text.{bytes}
+use Rattle.text.proofs.Decimal.{length-ten}
+use Rattle.text.proofs.Paste.{put-then}
+use Rattle.sheet.proofs.Room.{after-field}
+use Rattle.regrouping.specs.Files.{refusedText}
+use borrow.Author.Needs.{needs}
+use Rattle.regrouping.proofs.put_refused.Statement.{statement}
+use Rattle.regrouping.proofs.put_refused.Tie as tie
+
+slice-aggregate-put-field : tie.Need-slice-aggregate-put-field
+slice-aggregate-put-field c = search needs
+
+put-field-requires : tie.Need-put-field-requires
+put-field-requires c κs = omega (arith, length-ten (c .before .before .before .args .many))
+
+slice-aggregate-put-field-2 : tie.Need-slice-aggregate-put-field-2
+slice-aggregate-put-field-2 c = search needs
+
+put-field-requires-2 : tie.Need-put-field-requires-2
+put-field-requires-2 c κs = omega (arith, after-field (bytes ": ") (c .before .before .before .before .before .before .before .before .args .many) (c .before .before .before .before .put-field .ensures), length-ten (c .before .before .before .before .before .before .before .before .args .all))
+
+slice-aggregate-put-bytes : tie.Need-slice-aggregate-put-bytes
+slice-aggregate-put-bytes c = search needs
+
+put-bytes-requires : tie.Need-put-bytes-requires
+put-bytes-requires c κs = omega (arith, after-field (bytes ": ") (c .before .before .before .before .before .before .before .before .before .before .before .before .before .args .many) (c .before .before .before .before .before .before .before .before .before .put-field .ensures), after-field (bytes " of ") (c .before .before .before .before .before .before .before .before .before .before .before .before .before .args .all) (c .before .before .before .before .put-field2 .ensures))
+
+same-length : tie.Need-same-length
+same-length c = search needs
+
+returns : tie.Need-returns
+unfolding refusedText
+returns c = put-then (put-then (c .before .before .before .before .before .before .before .before .before .before .before .before .put-field .ensures) (c .before .before .before .before .before .before .before .put-field2 .ensures) (omega arith)) (c .before .before .put-bytes .ensures) (omega arith)
+
+pub put-refused-spec : {M : Type 1} → statement M
+put-refused-spec =
+    tie.close
+    (tie.spec
+    slice-aggregate-put-field
+    put-field-requires
+    slice-aggregate-put-field-2
+    put-field-requires-2
+    slice-aggregate-put-bytes
+    put-bytes-requires
+    same-length
+    returns)

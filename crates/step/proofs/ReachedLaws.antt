@@ -1,0 +1,57 @@
+-- The test of the stations that a step touches is exact: one case a kind of step, each by the test's own bounds.
+-- Assumes nothing.
+use mathlib.Core.Path.{_≡_, refl, ap, _∙_, subst}
+use mathlib.Core.Bool.{true, false, false≢true, _&&_, and-eq-true-iff}
+use Prim.Native.Nat.{ℕ, _≤_}
+use borrow.Author.Tests.{eqb-true, eq-eqb, le-leb}
+use Rattle.step.specs.declared.Step.{Step}
+use Rattle.step.specs.declared.Step.the-variants.{Command, Front, Z, C, Inhibit, LookAtMe, Scan, Repeat, Stop}
+use Rattle.step.specs.declared.Reading.{Reading}
+use Rattle.step.specs.declared.Reading.the-variants.{Good, Bad}
+use Rattle.step.specs.declared.Verdict.{Verdict}
+use Rattle.step.specs.declared.Verdict.the-variants.{Fine, Refuse}
+use Rattle.step.specs.Verdict.{isFine, verdictOf}
+use Rattle.step.specs.Touches.{reach, reachOf, touchesOf}
+use Rattle.step.specs.Reached.{Reached, TouchesExact}
+use Rattle.step.specs.Reached.Reached.{by-command, by-front, by-repeat, by-stop, by-scan, by-z, by-c, by-i, by-look}
+use Rattle.step.proofs.Fine.{within-bounds}
+
+-- what the test finds is reached
+pub reach-only : (s : Step) (k : ℕ) → 1 ≤ k → k ≤ 23 → reach s k ≡ true → Reached s k
+reach-only (Command n a f w) k lo hi e = subst (Reached (Command n a f w)) (eqb-true n k e) by-command
+reach-only (Front n a v) k lo hi e = subst (Reached (Front n a v)) (eqb-true n k e) by-front
+reach-only Z k lo hi e = by-z lo hi
+reach-only C k lo hi e = by-c lo hi
+reach-only (Inhibit v) k lo hi e = by-i lo hi
+reach-only LookAtMe k lo hi e = by-look lo hi
+reach-only (Scan n a f to limit) k lo hi e = let h = within-bounds n k to e in by-scan (h .0) (h .1)
+reach-only (Repeat n a f limit tries) k lo hi e = subst (Reached (Repeat n a f limit tries)) (eqb-true n k e) by-repeat
+reach-only (Stop n a f limit) k lo hi e = subst (Reached (Stop n a f limit)) (eqb-true n k e) by-stop
+
+-- and what is reached is found
+pub reach-all : {s : Step} {k : ℕ} → Reached s k → reach s k ≡ true
+reach-all (by-command {n = n}) = eq-eqb n n refl
+reach-all (by-front {n = n}) = eq-eqb n n refl
+reach-all (by-repeat {n = n}) = eq-eqb n n refl
+reach-all (by-stop {n = n}) = eq-eqb n n refl
+reach-all (by-scan {n = n} {to = to} {k = k} lo hi) = rw (le-leb n k lo, le-leb k to hi)
+reach-all (by-z lo hi) = refl
+reach-all (by-c lo hi) = refl
+reach-all (by-i lo hi) = refl
+reach-all (by-look lo hi) = refl
+
+is-fine : (v : Verdict) → isFine v ≡ true → v ≡ Fine
+is-fine Fine e = refl
+is-fine (Refuse q) e = absurd (false≢true e)
+
+pub touches-exact : TouchesExact
+touches-exact r b k lo hi = (only r, λ s e f h. all s e f (reach-all h))
+  where
+    only : (r : Reading) → touchesOf r b k ≡ true → (s : Step) × (r ≡ Good s) × (verdictOf r b ≡ Fine) × Reached s k
+    only (Good s) e =
+        let h = and-eq-true-iff (isFine (verdictOf (Good s) b)) (reach s k) .0 e in
+        (s, refl, is-fine (verdictOf (Good s) b) (h .0), reach-only s k lo hi (h .1))
+    only (Bad q) e = absurd (false≢true e)
+
+    all : (s : Step) → r ≡ Good s → verdictOf r b ≡ Fine → reach s k ≡ true → touchesOf r b k ≡ true
+    all s e f h = ap (λ (v : Verdict). isFine v && reachOf r k) f ∙ ap (λ (t : Reading). reachOf t k) e ∙ h

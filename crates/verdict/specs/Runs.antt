@@ -1,0 +1,44 @@
+-- Two lists that were compared, and then run as they are lent: what the comparison says of the runs.
+use mathlib.Core.Path.{_≡_}
+use mathlib.Core.List.{List}
+use Prim.Native.Nat.{ℕ, _*_, _≤_, _<_}
+use lib.ListN.{length}
+use Rattle.step.specs.declared.Verdict.the-variants.{Fine}
+use Rattle.lists.specs.Words.{part}
+use Rattle.lists.specs.Runs.{Ran, listOf}
+use Rattle.rehearsal.specs.Pairs.{RearrangedWords, AlikeWords}
+use Rattle.verdict.specs.Counted.{count}
+use Rattle.verdict.specs.Compared.{Lawful, LentAlike}
+use Rattle.verdict.specs.declared.Comparison.{Comparison}
+use Rattle.verdict.specs.declared.Comparison.the-variants.{Same, Parted}
+
+-- the whole list us, run from the memory m with its answers and buffers lent
+abbrev pub runOf : (m us answers buffers : List ℕ) → Ran
+runOf m us answers buffers = listOf m (count us) us answers buffers
+
+-- the two runs leave the same memory and, place by place, the same words of answer and of buffer
+abbrev pub AlikeRuns : Ran → Ran → (count : ℕ) → (p : List ℕ) → Type 0
+AlikeRuns x y c p = AlikeWords (x .memory) (x .answers) (x .buffers) (y .memory) (y .answers) (y .buffers) c p
+
+-- The second list is the rearrangement p of the first, a refused step counted by its number; so where both are run from one memory, with buffers handed as p
+-- says, and neither run is refused, the two runs end alike.
+abbrev pub SameRuns : List ℕ → List ℕ → Type 0
+SameRuns us ws =
+    (p : List ℕ) × Lawful us ws p
+    × ((m a1 b1 a2 b2 : List ℕ) → LentAlike us b1 ws b2 p → runOf m us a1 b1 .verdict ≡ Fine → runOf m ws a2 b2 .verdict ≡ Fine
+    → AlikeRuns (runOf m us a1 b1) (runOf m ws a2 b2) (count ws) p)
+
+-- no rearrangement of the steps themselves, with the same fields and the same buffer contents, keeps the order of any two that touch a station in common:
+-- whatever buffers of 512 words the steps are handed
+abbrev pub NeverRearranged : List ℕ → List ℕ → Type 0
+NeverRearranged us ws =
+    (b1 b2 p : List ℕ) → 512 * count us ≤ length b1 → 512 * count ws ≤ length b2 → RearrangedWords us b1 (count us) ws b2 (count ws) p → ⊥
+
+-- what a comparison says of the runs
+abbrev pub ComparedRuns : List ℕ → List ℕ → Comparison → Type 0
+ComparedRuns us ws Same = SameRuns us ws
+ComparedRuns us ws (Parted k i j) = NeverRearranged us ws
+
+-- each step is handed the same 512 words w: then the buffers are handed as any rearrangement says (`lent-equal`)
+abbrev pub EachLent : (us buffers w : List ℕ) → Type 0
+EachLent us b w = (512 * count us ≤ length b) × ((k : ℕ) → k < count us → part 512 b k ≡ w)
