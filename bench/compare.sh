@@ -1,5 +1,5 @@
 #!/usr/bin/env bash
-# Compares the proved program with the plain C program, byte for byte, and times both.
+# Compares the proved program with the plain C program, byte for byte, and times both; C once with the C library's input and output, once with its own.
 #   bench/compare.sh [PROGRAM [RUNS [FOLDERS [FIRST]]]]
 # PROGRAM  the proved program; target/bin/rehearse in the repository if not given
 # RUNS     timed runs of each program on each large folder (40)
@@ -31,7 +31,7 @@ done
 work=$(mktemp -d) || fail "no folder for the files"
 trap 'rm -rf "$work"' EXIT
 
-gcc -O3 -o "$work/plain" "$here/plain.c" || fail "plain.c does not build"
+gcc -O3 -DSTDIO -o "$work/plain" "$here/plain.c" && gcc -O3 -o "$work/quick" "$here/plain.c" || fail "plain.c does not build"
 python3 "$here/make_files.py" large "$work/large" || fail "the large folders could not be written"
 for lines in 12500 25000 50000; do
     mkdir "$work/large/mixed-$lines"
@@ -42,30 +42,33 @@ python3 "$here/make_files.py" random "$work/random" "$first" "$folders" || fail 
 
 # run PROGRAM FOLDER SHEET: one run. 01 sets no exit code, so only an end by a signal counts.
 run() {
-    (cd "$2" && exec "$1") >"$3"
+    (cd "$2" && exec "$1") >"$3" 2>"$work/said"
     local code=$?
     [ "$code" -lt 128 ] || { echo "DIFFERENT: $(basename "$1") ended by a signal (code $code) in $2"; return 1; }
 }
 
-# same FOLDER: runs both programs there, compares their sheets and shows the first difference.
+# same FOLDER: runs the programs there, compares their sheets and shows the first difference.
 same() {
-    run "$work/plain" "$1" "$work/sheet.plain" && run "$program" "$1" "$work/sheet.program" || return 1
-    cmp -s "$work/sheet.plain" "$work/sheet.program" && return 0
-    echo "DIFFERENT: ${1#"$work"/} (< plain C, > program)"
-    diff -a "$work/sheet.plain" "$work/sheet.program" | head -n 6
-    return 1
+    run "$program" "$1" "$work/sheet.program" || return 1
+    for c in plain quick; do
+        run "$work/$c" "$1" "$work/sheet.c" || return 1
+        cmp -s "$work/sheet.c" "$work/sheet.program" && continue
+        echo "DIFFERENT: ${1#"$work"/} (< $c C, > program)"
+        diff -a "$work/sheet.c" "$work/sheet.program" | head -n 6
+        return 1
+    done
 }
 
 different=0
-printf '%-12s %9s %9s %11s %9s %7s\n' folder lines "of sheet" "program ms" "C ms" ratio
+printf '%-12s %9s %9s %11s %9s %7s %11s %7s\n' folder lines "of sheet" "program ms" "C ms" ratio "quick C ms" ratio
 for folder in mixed scans garbled past mixed-12500 mixed-25000 mixed-50000; do
     if ! same "$work/large/$folder"; then
         different=$((different + 1))
         continue
     fi
-    times=$(python3 "$here/cpu_time.py" "$runs" "$work/large/$folder" "$program" "$work/plain") || fail "no times in $folder"
-    echo "$folder $(wc -l <"$work/large/$folder/run.txt") $(wc -l <"$work/sheet.plain") $times" |
-        awk '{ printf "%-12s %9d %9d %11.2f %9.2f %7.2f\n", $1, $2, $3, $4, $5, $4 / $5 }'
+    times=$(python3 "$here/cpu_time.py" "$runs" "$work/large/$folder" "$program" "$work/plain" "$work/quick") || fail "no times in $folder"
+    echo "$folder $(wc -l <"$work/large/$folder/run.txt") $(wc -l <"$work/sheet.program") $times" |
+        awk '{ printf "%-12s %9d %9d %11.2f %9.2f %7.2f %11.2f %7.2f\n", $1, $2, $3, $4, $5, $4 / $5, $6, $4 / $6 }'
 done
 
 bad=0

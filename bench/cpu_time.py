@@ -3,14 +3,14 @@
 
 cpu_time.py RUNS FOLDER PROGRAM...
 
-The programs take turns, so that a busy machine is busy for all of them. What they print goes to /dev/null.
+The programs take turns, so that a busy machine is busy for all of them. What they print and say goes to /dev/null.
 """
 import os
 import sys
 
 
 def run(program, sheet):
-    child = os.posix_spawn(program, [program], os.environ, file_actions=[(os.POSIX_SPAWN_DUP2, sheet, 1)])
+    child = os.posix_spawn(program, [program], os.environ, file_actions=[(os.POSIX_SPAWN_DUP2, sheet, 1), (os.POSIX_SPAWN_DUP2, sheet, 2)])
     _, status, used = os.wait4(child, 0)
     if os.WIFSIGNALED(status):
         sys.exit("%s ended by signal %d" % (program, os.WTERMSIG(status)))

@@ -1,6 +1,7 @@
-// The CAMAC rehearsal in plain C, written from document 01 and the readings of it.
+// The CAMAC rehearsal in plain C, written from document 01 read as docs/RULES.md has it.
 // It shares no code with the proved program, so that the two can be compared, in what they print and in how fast they are.
-// Build: gcc -O3 plain.c. It reads crate.txt and run.txt in the current folder, or the two files named, and prints the sheet.
+// Build: gcc -O3 -DSTDIO plain.c has the C library read lines and print numbers, as a C program mostly does; gcc -O3 plain.c does both by hand, to be quick.
+// It reads crate.txt and run.txt in the current folder, or the two files named, and prints the sheet.
 #define _GNU_SOURCE
 #include <errno.h>
 #include <fcntl.h>
@@ -38,6 +39,12 @@ static uint32_t inhibit;
 
 // ---- the sheet ----
 
+#ifdef STDIO
+static void flush(void) { fflush(stdout); }
+static void make_room(void) {}
+#define PUT(text) fputs(text, stdout)
+#define PUT_FIELD(key, n) printf(key "%u", (unsigned)(n))
+#else
 static char sheet[1 << 16];
 static char *out = sheet;
 
@@ -82,6 +89,7 @@ static inline void put_number(uint32_t n)
 
 #define PUT(text) (memcpy(out, text, sizeof text - 1), out += sizeof text - 1)
 #define PUT_FIELD(key, n) (PUT(key), put_number(n))
+#endif
 
 // ---- one station ----
 
@@ -498,6 +506,30 @@ static bool take_crate_line(const char *line, uint32_t k)
 // Hands each line of a file to `take` until that answers false, which is then the answer. A missing file is empty.
 static inline bool take_file(const char *name, bool take(const char *line, uint32_t k))
 {
+#ifdef STDIO
+    static size_t room = 1 << 16;
+    char *line = malloc(room);
+    ssize_t n;
+    FILE *file = fopen(name, "r");
+
+    if (!file) {
+        if (errno != ENOENT)
+            perror(name);
+        free(line);
+        return true;
+    }
+    for (uint32_t k = 1; k <= LAST_LINE && (n = getline(&line, &room, file)) >= 0; k++) {
+        if (line[n - 1] != '\n') { // the last line: a key may be compared past its end
+            line = realloc(line, room + 32);
+            line[n] = '\n';
+        }
+        if (!take(line, k))
+            return false;
+    }
+    fclose(file);
+    free(line);
+    return true;
+#else
     enum { PART = 1 << 16, PAST = 16 }; // a key may be compared past the last LF
     static char text[PART + PAST];
     size_t fill = 0;
@@ -532,6 +564,7 @@ static inline bool take_file(const char *name, bool take(const char *line, uint3
     }
     close(file);
     return true;
+#endif
 }
 
 int main(int count, char **names)
