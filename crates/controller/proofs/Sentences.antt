@@ -33,7 +33,7 @@ use Rattle.controller.specs.declared.Answer.the-variants.{Replied, Taken
 
 -- every step leaves the crate fit
 pub step-fit : (m : List ℕ) (o : Order) → FitCrate m → FitCrate (leaves m o)
-step-fit m o f = law .keeps m o f
+step-fit m o f = law .local o .keeps m f
 
 abbrev isRefused : Answer → Bool
 isRefused (Replied p) = false

@@ -8,7 +8,7 @@ use borrow.Author.Tests.{eq-eqb, le-leb}
 use lib.ListN.{length, drop}
 use Rattle.regroup.specs.Local.{Local}
 use Rattle.regroup.specs.Lists.{Law}
-use Rattle.regroup.proofs.Local.{local-none, local-map, law-of}
+use Rattle.regroup.proofs.Local.{local-none, local-map}
 use Rattle.regroup.proofs.Whole.{regroup}
 use Rattle.station.specs.declared.Reply.{Reply}
 use Rattle.dataway.specs.Crate.{FitCrate}
@@ -111,7 +111,7 @@ local-step o =
 
 -- THE LAW: a step from a fit crate keeps it fit, changes only the blocks that it touches, and I, and reads only those
 pub law : Law leaves gives FitCrate touches
-law = law-of leaves gives FitCrate touches crate-size local-step
+law = record { size = crate-size; local = local-step }
 
 -- a step that is done leaves the crate fit
 pub done-fit : (m : List ℕ) (o : Order) → FitCrate m → FitCrate (doneOf m o .memory)

@@ -40,19 +40,19 @@ module _ {Step Out : Type 0} (does : List ℕ → Step → List ℕ) (gives : Li
 
   -- a step that touches none changes nothing
   still : (m : List ℕ) (t : Step) → fit m → ((n : ℕ) → 1 ≤ n → n ≤ 23 → touches t n ≡ false) → does m t ≡ m
-  still m t f none = blocks-ext (does m t) m (law .size (does m t) (law .keeps m t f)) (law .size m f) each
+  still m t f none = blocks-ext (does m t) m (law .size (does m t) (law .local t .keeps m f)) (law .size m f) each
     where
       each : (n : ℕ) → n < 24 → Agree (does m t) m n
-      each zero h = law .frame m t f 1 (omega arith) (omega arith) (none 1 (omega arith) (omega arith)) .1
-      each (suc n) h = law .frame m t f (suc n) (omega arith) (omega arith) (none (suc n) (omega arith) (omega arith)) .0
+      each zero h = law .local t .frame m f 1 (omega arith) (omega arith) (none 1 (omega arith) (omega arith)) .1
+      each (suc n) h = law .local t .frame m f (suc n) (omega arith) (omega arith) (none (suc n) (omega arith) (omega arith)) .0
 
   -- a step gives the same, and leaves the same in what it touches, after a step with which it has no station in common
   half : (m : List ℕ) (s t : Step) → fit m → (Common touches s t → ⊥)
       → (gives (does m t) s ≡ gives m s) × ((n : ℕ) → 1 ≤ n → n ≤ 23 → touches s n ≡ true → Agree (does (does m t) s) (does m s) n)
   half m s t f nc =
-      law .reads (does m t) m s (law .keeps m t f) f (
-        λ n a b h. let x = law .frame m t f n a b (apart s t nc n a b h) in (x .0, x .1 0 (omega arith)),
-        λ all. law .frame m t f 1 (omega arith) (omega arith) (apart s t nc 1 (omega arith) (omega arith) (all 1 (omega arith) (omega arith))) .1,
+      law .local s .reads (does m t) m (law .local t .keeps m f) f (
+        λ n a b h. let x = law .local t .frame m f n a b (apart s t nc n a b h) in (x .0, x .1 0 (omega arith)),
+        λ all. law .local t .frame m f 1 (omega arith) (omega arith) (apart s t nc 1 (omega arith) (omega arith) (all 1 (omega arith) (omega arith))) .1,
       )
 
   -- the two leave the same memory in either order
@@ -60,21 +60,21 @@ module _ {Step Out : Type 0} (does : List ℕ → Step → List ℕ) (gives : Li
   commute m s t f nc = go (untouched (touches s) 23) (untouched (touches t) 23)
     where
       fs : fit (does m s)
-      fs = law .keeps m s f
+      fs = law .local s .keeps m f
 
       ft : fit (does m t)
-      ft = law .keeps m t f
+      ft = law .local t .keeps m f
 
       -- a station's block: one of the two touches it, or neither
       station : (n : ℕ) → 1 ≤ n → n ≤ 23 → (touches s n ≡ true) ⊎ (touches s n ≡ false) → (touches t n ≡ true) ⊎ (touches t n ≡ false)
           → Agree (does (does m s) t) (does (does m t) s) n
       station n a b (inl hs) ht w i =
-          law .frame (does m s) t fs n a b (apart s t nc n a b hs) .0 w i ∙ sym (half m s t f nc .1 n a b hs w i)
+          law .local t .frame (does m s) fs n a b (apart s t nc n a b hs) .0 w i ∙ sym (half m s t f nc .1 n a b hs w i)
       station n a b (inr hs) (inl ht) w i =
-          half m t s f (flip s t nc) .1 n a b ht w i ∙ sym (law .frame (does m t) s ft n a b hs .0 w i)
+          half m t s f (flip s t nc) .1 n a b ht w i ∙ sym (law .local s .frame (does m t) ft n a b hs .0 w i)
       station n a b (inr hs) (inr ht) w i =
-          law .frame (does m s) t fs n a b ht .0 w i ∙ law .frame m s f n a b hs .0 w i
-          ∙ sym (law .frame m t f n a b ht .0 w i) ∙ sym (law .frame (does m t) s ft n a b hs .0 w i)
+          law .local t .frame (does m s) fs n a b ht .0 w i ∙ law .local s .frame m f n a b hs .0 w i
+          ∙ sym (law .local t .frame m f n a b ht .0 w i) ∙ sym (law .local s .frame (does m t) ft n a b hs .0 w i)
 
       -- where one of the two touches all 23, the other does nothing; where neither does, block 0 stays as it was
       go : Outside (touches s) 23 ⊎ Within (touches s) 23 → Outside (touches t) 23 ⊎ Within (touches t) 23 → does (does m s) t ≡ does (does m t) s
@@ -86,14 +86,14 @@ module _ {Step Out : Type 0} (does : List ℕ → Step → List ℕ) (gives : Li
           ap (λ (k : List ℕ). does k t) (still m s f none) ∙ sym (still (does m t) s ft none)
       go (inl a) (inl b) =
           blocks-ext (does (does m s) t) (does (does m t) s)
-          (law .size _ (law .keeps (does m s) t fs)) (law .size _ (law .keeps (does m t) s ft)) each
+          (law .size _ (law .local t .keeps (does m s) fs)) (law .size _ (law .local s .keeps (does m t) ft)) each
         where
           each : (n : ℕ) → n < 24 → Agree (does (does m s) t) (does (does m t) s) n
           each zero h = λ w i.
-              law .frame (does m s) t fs (b .0) (b .1) (b .2) (b .3) .1 w i
-              ∙ law .frame m s f (a .0) (a .1) (a .2) (a .3) .1 w i
-              ∙ sym (law .frame m t f (b .0) (b .1) (b .2) (b .3) .1 w i)
-              ∙ sym (law .frame (does m t) s ft (a .0) (a .1) (a .2) (a .3) .1 w i)
+              law .local t .frame (does m s) fs (b .0) (b .1) (b .2) (b .3) .1 w i
+              ∙ law .local s .frame m f (a .0) (a .1) (a .2) (a .3) .1 w i
+              ∙ sym (law .local t .frame m f (b .0) (b .1) (b .2) (b .3) .1 w i)
+              ∙ sym (law .local s .frame (does m t) ft (a .0) (a .1) (a .2) (a .3) .1 w i)
           each (suc n) h = station (suc n) (omega arith) (omega arith) (which (touches s (suc n))) (which (touches t (suc n)))
 
   -- past one step more
@@ -116,4 +116,4 @@ module _ {Step Out : Type 0} (does : List ℕ → Step → List ℕ) (gives : Li
   move d o (y ∷ ys) zero m f h nc = (refl, refl, λ j. refl)
   move d o (y ∷ ys) (suc k) m f h nc =
       move-more o (getD ys k d) y ys k m f (nc zero (omega arith))
-      (move d o ys k (does m y) (law .keeps m y f) (le-of-suc-le-suc h) (λ j l. nc (suc j) (omega arith)))
+      (move d o ys k (does m y) (law .local y .keeps m f) (le-of-suc-le-suc h) (λ j l. nc (suc j) (omega arith)))

@@ -13,7 +13,6 @@ use lib.ListN.{length, getD}
 use Rattle.blocks.specs.Blocks.{Agree, word, inhibitOf, blockOf, withBlock}
 use Rattle.blocks.proofs.Blocks.{blocks-ext, block-of-agree, put-in, put-other}
 use Rattle.regroup.specs.Local.{All, Seen, Local}
-use Rattle.regroup.specs.Lists.{Law}
 use Rattle.regroup.proofs.Stations.{which, Outside, untouched}
 
 module _ (fit : List ℕ → Type 0) (size : (m : List ℕ) → fit m → length m ≡ 768) where
@@ -154,14 +153,3 @@ module _ (fit : List ℕ → Type 0) (size : (m : List ℕ) → fit m → length
       → Local fit on f g → ((a : A) → Local fit on (f′ a) (g′ a))
       → Local fit on (λ (m : List ℕ). f′ (g m) (f m)) (λ (m : List ℕ). g′ (g m) (f m))
   local-then on f g f′ g′ l l′ = local-next on f g f′ g′ l (λ m q. l′ (g m))
-
--- the law of all steps: each keeps to the stations that it touches
-pub law-of : {Step Out : Type 0} (does : List ℕ → Step → List ℕ) (gives : List ℕ → Step → Out)
-    (fit : List ℕ → Type 0) (touches : Step → ℕ → Bool) → ((m : List ℕ) → fit m → length m ≡ 768)
-    → ((s : Step) → Local fit (touches s) (λ (m : List ℕ). does m s) (λ (m : List ℕ). gives m s)) → Law does gives fit touches
-law-of does gives fit touches size l = record {
-  size = size;
-  keeps = λ m s. l s .keeps m;
-  frame = λ m s. l s .frame m;
-  reads = λ m m′ s. l s .reads m m′;
-}

@@ -14,7 +14,7 @@ use Rattle.blocks.specs.Blocks.{inhibitOf, blockOf, withBlock}
 use Rattle.blocks.proofs.Blocks.{length-block, length-with}
 use Rattle.regroup.specs.Local.{Local}
 use Rattle.regroup.specs.Lists.{Common, Rearranged, Law, Alike}
-use Rattle.regroup.proofs.Local.{local-none, local-all, local-one, law-of}
+use Rattle.regroup.proofs.Local.{local-none, local-all, local-one}
 use Rattle.regroup.proofs.Whole.{as-long, step-at, regroup}
 
 -- ---- the steps
@@ -83,7 +83,7 @@ local-sample inhibit =
     (λ m f. length-set m 0 1 ∙ f)
 
 pub law : Law does gives Fit touches
-law = law-of does gives Fit touches (λ m f. f) local-sample
+law = record { size = λ m f. f; local = local-sample }
 
 -- ---- a rearrangement
 

@@ -140,7 +140,7 @@ module _ {Step Out : Type 0} (does : List ℕ → Step → List ℕ) (gives : Li
   whole (x ∷ xs) ys p m f r =
       let first : (k : ℕ) × (k < length ys) × (p k ≡ 0) = r .each zero (suc-le-suc zero-le) in
       more x xs ys p m f r (first .0) (first .1) (first .2)
-      (whole xs (del (first .0) ys) (λ (j : ℕ). pred (p (skip (first .0) j))) (does m x) (law .keeps m x f)
+      (whole xs (del (first .0) ys) (λ (j : ℕ). pred (p (skip (first .0) j))) (does m x) (law .local x .keeps m f)
       (rest touches d x xs ys p r (first .0) (first .1) (first .2)))
 
 module _ {Step Out : Type 0} (does : List ℕ → Step → List ℕ) (gives : List ℕ → Step → Out) (fit : List ℕ → Type 0) (touches : Step → ℕ → Bool)

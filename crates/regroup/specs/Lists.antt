@@ -7,12 +7,11 @@
 --   touches s n  step s touches station n. A refused step touches none. That no memory is asked for says that only a step's fields and its buffer
 --                decide whether it is refused.
 use mathlib.Core.Path.{_≡_}
-use mathlib.Core.Bool.{Bool, true, false}
+use mathlib.Core.Bool.{Bool, true}
 use mathlib.Core.List.{List, [], _∷_, map}
 use Prim.Native.Nat.{ℕ, _≤_, _<_}
 use lib.ListN.{length, getD}
-use Rattle.blocks.specs.Blocks.{Agree}
-use Rattle.regroup.specs.Local.{Seen}
+use Rattle.regroup.specs.Local.{Local}
 
 -- the memory that a list of steps leaves: the first step gets m, each later one what the step before left
 abbrev pub run : {Step : Type 0} → (List ℕ → Step → List ℕ) → List ℕ → List Step → List ℕ
@@ -46,20 +45,13 @@ pub record Rearranged {Step : Type 0} (touches : Step → ℕ → Bool) (d : Ste
   -- of two steps that touch a station in common, the one that is first in ys was first in xs
   pub order : (j k : ℕ) → j < k → k < length p → Common touches (getD ys j d) (getD ys k d) → getD p j 0 < getD p k 0
 
--- One law for all steps: a step from a fit memory changes and reads only the blocks that it touches, and I. It says of each step, at the stations
--- that it touches, what `Local` says.
+-- One law for all steps: a step from a fit memory changes and reads only the blocks that it touches, and I
 pub record Law {Step Out : Type 0} (does : List ℕ → Step → List ℕ) (gives : List ℕ → Step → Out)
     (fit : List ℕ → Type 0) (touches : Step → ℕ → Bool) : Type 0 where
   -- a fit memory has 768 words
   pub size : (m : List ℕ) → fit m → length m ≡ 768
-  -- every step leaves the memory fit
-  pub keeps : (m : List ℕ) (s : Step) → fit m → fit (does m s)
-  -- a step changes only the blocks that it touches, and block 0, where I is, only if it touches all 23
-  pub frame : (m : List ℕ) (s : Step) → fit m
-      → (n : ℕ) → 1 ≤ n → n ≤ 23 → touches s n ≡ false → Agree (does m s) m n × Agree (does m s) m 0
-  -- it reads only the blocks that it touches, and I: on nothing else hangs what it gives back or leaves in those blocks
-  pub reads : (m m′ : List ℕ) (s : Step) → fit m → fit m′ → Seen (touches s) m m′
-      → (gives m s ≡ gives m′ s) × ((n : ℕ) → 1 ≤ n → n ≤ 23 → touches s n ≡ true → Agree (does m s) (does m′ s) n)
+  -- every step keeps to the stations that it touches
+  pub local : (s : Step) → Local fit (touches s) (λ (m : List ℕ). does m s) (λ (m : List ℕ). gives m s)
 
 -- The lists xs and ys, run from the memory m, end alike: they leave the same 768 words, and what step k of ys gives back is what the step at place
 -- p_k of xs gave back. (`o` stands past the end: no place of a rearrangement lies there.)
