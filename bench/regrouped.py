@@ -9,6 +9,7 @@ Ends with 0 when every output is the same, 1 when one differs, 2 when it cannot 
 
 Written from document 01 alone. A line of a file is a step. The verdict comes from trying the rearrangements one by one; the lines before it from
 the steps that touch each station, in order, and from how often each refusal number comes. Neighbouring stations that part alike are one line.
+What is said on standard error is compared too.
 """
 import os
 import random
@@ -19,6 +20,7 @@ import tempfile
 import time
 
 LAST_LINE = 99999
+NAMES = ("run.txt", "regrouped.txt")
 LAST_STATION = 23
 ALL_STATIONS = frozenset(range(1, LAST_STATION + 1))
 NO_STATION = frozenset()
@@ -95,11 +97,11 @@ def step_of(line):
 
 
 def steps_of(data):
-    """The steps of a file's bytes; None is a missing file."""
-    lines = (data or b"").split(b"\n")
+    """The steps of a file's bytes."""
+    lines = data.split(b"\n")
     if not lines[-1]:
         lines.pop()
-    return [step_of(line) for line in lines[:LAST_LINE]]
+    return [step_of(line) for line in lines]
 
 
 # ---- the two lists compared
@@ -174,6 +176,30 @@ def report(first, second):
     lines = station_lines(station_partings(first, second)) + refusal_lines(first, second)
     lines.append("regrouped=%d" % rearranged(first, second))
     return "".join(line + "\n" for line in lines).encode()
+
+
+# ---- what standard error says
+
+
+def said_of(name, data):
+    """What is said of a file, None where it is missing: the second answer is whether there can be a verdict."""
+    if data is None:
+        return "%s is missing; no verdict\n" % name, False
+    steps = steps_of(data)
+    if len(steps) > LAST_LINE:
+        return "%s has lines past 99,999; no verdict\n" % name, False
+    refused = sum(1 for step in steps if step.refused)
+    if refused:
+        return "%s: %d of %d lines are refused; refused lines are compared by their number\n" % (name, refused, len(steps)), True
+    return "", True
+
+
+def outcome(pair):
+    """What the program prints, and what it says on standard error."""
+    told = [said_of(name, data) for name, data in zip(NAMES, pair)]
+    if not all(whole for _, whole in told):
+        return b"", "".join(text for text, whole in told if not whole).encode()
+    return report(steps_of(pair[0]), steps_of(pair[1])), "".join(text for text, _ in told).encode()
 
 
 # ---- random pairs
@@ -307,7 +333,7 @@ def random_pair(rng):
 
 
 def write_pair(folder, pair):
-    for name, data in zip(("run.txt", "regrouped.txt"), pair):
+    for name, data in zip(NAMES, pair):
         path = os.path.join(folder, name)
         if data is None:
             if os.path.exists(path):
@@ -319,17 +345,16 @@ def write_pair(folder, pair):
 
 def run(program, folder):
     done = subprocess.run([program], cwd=folder, stdin=subprocess.DEVNULL, capture_output=True, timeout=60)
-    said = done.stdout
-    if done.stderr or done.returncode:
-        said += b"(ended with %d) " % done.returncode + done.stderr
-    return said
+    if done.returncode:
+        return b"(ended with %d)" % done.returncode, done.stderr
+    return done.stdout, done.stderr
 
 
 def show(pair, expected, said):
-    for name, data in zip(("run.txt", "regrouped.txt"), pair):
+    for name, data in zip(NAMES, pair):
         print(name, "is missing" if data is None else data[:2000])
     print("expected", expected)
-    print("program ", said[:4000])
+    print("program ", tuple(each[:4000] for each in said))
 
 
 # ---- large pairs
@@ -385,8 +410,8 @@ def main():
     with tempfile.TemporaryDirectory() as folder:
         for each in range(seed, seed + count):
             pair = random_pair(random.Random(each))
-            expected = report(steps_of(pair[0]), steps_of(pair[1]))
-            lawful_pairs += expected == b"regrouped=1\n"
+            expected = outcome(pair)
+            lawful_pairs += expected[0] == b"regrouped=1\n"
             write_pair(folder, pair)
             said = run(program, folder)
             if said != expected:
@@ -402,7 +427,7 @@ def main():
                 start = time.perf_counter()
                 said = run(program, folder)
                 times.append(time.perf_counter() - start)
-            if said != expected.encode():
+            if said[0] != expected.encode() or said[1] != b"".join(said_of(*each)[0].encode() for each in zip(NAMES, pair)):
                 show(pair, expected, said)
                 print("the large pair '%s' differs" % name)
                 return 1
