@@ -4,9 +4,6 @@
 // The words of one block.
 pub const BLOCK_WORDS: usize = 32;
 
-// The blocks of the memory: the crate's own and one for each station.
-pub const BLOCKS: usize = 24;
-
 // The stations for modules, numbered from 1.
 pub const STATIONS: usize = 23;
 

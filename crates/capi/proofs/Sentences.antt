@@ -8,7 +8,6 @@ use lib.Dec.{leb}
 use lib.ListN.{length}
 use Rattle.dataway.specs.Crate.{isFitCrate}
 use Rattle.step.specs.Modules.{moduleVerdict}
-use Rattle.step.specs.declared.Refusal.{Refusal}
 use Rattle.step.specs.declared.Refusal.the-variants.{ShortBuffer, UnfitCrate}
 use Rattle.kinds.specs.declared.Module.{Module}
 use Rattle.step.specs.declared.ModuleLine.{ModuleLine}

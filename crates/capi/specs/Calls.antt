@@ -8,8 +8,6 @@ use Rattle.dataway.specs.Crate.{isFitCrate}
 use Rattle.step.specs.Refusals.{refusalNumber, verdictNumber}
 use Rattle.step.specs.declared.Refusal.{Refusal}
 use Rattle.step.specs.declared.Refusal.the-variants.{ShortBuffer, UnfitCrate}
-use Rattle.step.specs.declared.Verdict.{Verdict}
-use Rattle.step.specs.declared.Verdict.the-variants.{Fine, Refuse}
 use Rattle.runfile.specs.Read.{readLine, readModule}
 use Rattle.controller.specs.Answers.{answerWords}
 use Rattle.controller.specs.Steps.{Performed, order, refused, stepOf}

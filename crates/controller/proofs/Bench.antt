@@ -18,5 +18,7 @@ use Rattle.transfer.specs.Stop.{stopFrom, stopNext}
 use Rattle.controller.specs.Bench.{Bench}
 
 pub bench : Bench
-unfolding clearBits signedOf blockOf withBlock sourcesOf withoutOldest bufferReadOf bufferReadAndClearOf readOf readAndClearOf readComplementOf selectiveClearOf addedOf testLamOf testStatusOf functionsOf commandOf countedOf storedOf kindEventsOf frontOf replyOf afterCommand withModule scanning scanFrom scanCycle scanNext repeatNext repeatFrom keep stopFrom stopNext
+unfolding clearBits signedOf blockOf withBlock sourcesOf withoutOldest bufferReadOf bufferReadAndClearOf readOf readAndClearOf readComplementOf
+    selectiveClearOf addedOf testLamOf testStatusOf functionsOf commandOf countedOf storedOf kindEventsOf frontOf replyOf afterCommand withModule
+    scanning scanFrom scanCycle scanNext repeatNext repeatFrom keep stopFrom stopNext
 bench = (refl, refl, refl, refl, refl, refl, refl, refl, refl, refl, refl, refl, refl, refl)

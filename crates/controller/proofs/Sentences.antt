@@ -3,7 +3,7 @@
 -- Assumes nothing.
 use mathlib.Core.Path.{_≡_, refl, sym, ap, _∙_}
 use mathlib.Core.Bool.{Bool, true, false, false≢true, cond}
-use mathlib.Core.List.{List, [], _∷_}
+use mathlib.Core.List.{List}
 use Prim.Native.Nat.{ℕ, _≤_}
 use native.Mathlib.Omega.{arith}
 use lib.Dec.{eqb}
@@ -17,7 +17,7 @@ use Rattle.dataway.specs.Crate.{isFitCrate, FitCrate}
 use Rattle.step.specs.Verdict.{verdictOf, stepVerdict, isFine}
 use Rattle.step.proofs.Fine.{scan-fields, repeat-fields, stop-fields}
 use Rattle.step.proofs.Numbers.{row, row-number}
-use Rattle.controller.specs.Steps.{Order, Out, Performed, refused, actOf, judgedOf, doneOf, stepOf, leaves, gives}
+use Rattle.controller.specs.Steps.{Order, Performed, refused, actOf, judgedOf, doneOf, stepOf, leaves, gives}
 use Rattle.controller.specs.Answers.{answerWords}
 use Rattle.controller.proofs.StepLaws.{law, step-done}
 use Rattle.step.specs.declared.Refusal.{Refusal}

@@ -1,7 +1,7 @@
 -- The bench table (01): P1 to P12 in one statement about the definitions.
 use Prim.Native.Nat.{ℕ}
 use mathlib.Core.Path.{_≡_}
-use mathlib.Core.List.{List, [], _∷_, _++_}
+use mathlib.Core.List.{List, _∷_, _++_}
 use lib.ListN.{replicate}
 use Rattle.blocks.specs.Blocks.{withBlock}
 use Rattle.kinds.specs.declared.Module.{Module}

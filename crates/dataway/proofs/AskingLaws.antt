@@ -6,13 +6,13 @@ use mathlib.Core.Bool.{Bool, cond}
 use mathlib.Core.List.{List, [], _∷_, _++_}
 use native.Mathlib.Decide.{decLt, ℕ-discrete}
 use native.Mathlib.Omega.{arith}
-use borrow.Author.Tests.{eq-eqb, ne-eqb}
+use borrow.Author.Tests.{ne-eqb, lt-ltb}
 use lib.Dec.{eqb}
 use lib.ListN.{length, getD, length-append, List·getD-append}
 use lib.Seq.{getD-at}
 use Rattle.blocks.specs.Blocks.{blockOf}
 use Rattle.station.specs.Block.{requestOf}
-use Rattle.dataway.specs.Lam.{requests, countTo, firstTo, lamOf}
+use Rattle.dataway.specs.Lam.{isRequesting, requests, countTo, firstTo, lamOf}
 use Rattle.dataway.specs.Asking.{Asks, CountAndFirst}
 
 module _ (m : List ℕ) where
@@ -27,8 +27,8 @@ module _ (m : List ℕ) where
   -- station k + 1 does not request
   module _ (k : ℕ) (ns : List ℕ) (t : To k ns) (e : requestOf (blockOf m (suc k)) ≡ 0) where
     not-asked : requests m (suc k) ≡ 0
-    unfolding requests
-    not-asked = ap (λ (b : Bool). cond b 0 1) (eq-eqb (requestOf (blockOf m (suc k))) 0 e)
+    unfolding requests isRequesting
+    not-asked = simp e
 
     first-same : (x : ℕ) → firstTo k m ≡ x → firstTo (suc k) m ≡ x
     unfolding firstTo
@@ -54,8 +54,8 @@ module _ (m : List ℕ) where
   -- it does
   module _ (k : ℕ) (ns : List ℕ) (t : To k ns) (e : requestOf (blockOf m (suc k)) ≡ 0 → ⊥) where
     asked : requests m (suc k) ≡ 1
-    unfolding requests
-    asked = ap (λ (b : Bool). cond b 0 1) (ne-eqb (requestOf (blockOf m (suc k))) 0 e)
+    unfolding requests isRequesting
+    asked = simp (lt-ltb 0 (requestOf (blockOf m (suc k))) (omega arith))
 
     abbrev more : List ℕ
     more = ns ++ (suc k ∷ [])

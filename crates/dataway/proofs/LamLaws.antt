@@ -5,56 +5,44 @@ use mathlib.Core.Path.{_≡_, refl, sym, ap, ap₂, _∙_}
 use mathlib.Core.List.{List}
 use mathlib.Core.Bool.{Bool, true, false, cond}
 use mathlib.Core.Logic.{_⊎_, inl, inr, ⊎-elim}
-use native.Mathlib.Nat.{pow-suc, le-of-suc-le-suc, not-suc-le-zero, zero-mul, zero-div, one-mul}
+use native.Mathlib.Nat.{pow-suc, le-of-suc-le-suc}
 use native.Mathlib.Numerals.{add-one}
 use native.Mathlib.Omega.{arith}
-use borrow.Author.Tests.{eq-eqb, ne-eqb}
+use borrow.Author.Tests.{ne-eqb}
 use lib.Dec.{eqb}
 use lib.Arith.{lt-one}
-use lib.Bits.{bitAnd, bitOr, or-shifted-r, block-half, block-odd}
-use lib.Pow.{pow-pos, shl-exact}
+use lib.Bits.{bitAnd, bitOr, block-half, block-odd}
+use lib.Pow.{pow-pos}
 use lib.Count.{ones, ones-cat, trailingZeros, under}
 use Rattle.blocks.specs.Blocks.{word, blockOf}
 use Rattle.blocks.proofs.Blocks.{word-block}
-use Rattle.word24.specs.Word.{bitOf}
-use Rattle.word24.proofs.BitLaws.{bit-or, bit-pow-same, bit-pow-other, bit-ext, high-bit}
-use Rattle.station.specs.Block.{statusOf, maskOf, requestOf}
-use Rattle.kinds.proofs.TestLaws.{alike}
-use Rattle.dataway.specs.Lam.{requests, patternTo, countTo, firstTo, lamOf}
+use Rattle.word24.specs.Word.{bitOf, asBit, bitsOf}
+use Rattle.word24.proofs.BitsOf.{bits-suc, bits-lt, bits-or, bits-bit, bits-unique}
+use Rattle.station.specs.Block.{requestOf}
+use Rattle.kinds.proofs.TestLaws.{alike, positive}
+use Rattle.dataway.specs.Lam.{isRequesting, requests, patternTo, countTo, firstTo, lamOf}
 use Rattle.dataway.specs.declared.lam.LamReading.{LamReading}
 
 -- ---- a station's request
 pub request-bit : (m : List ℕ) (n : ℕ) → (requests m n ≡ 0) ⊎ (requests m n ≡ 1)
 unfolding requests
-request-bit m n = go (eqb (requestOf (blockOf m n)) 0)
+request-bit m n = go (isRequesting m n)
   where
-    go : (t : Bool) → (_≡_ {A = ℕ} (cond t 0 1) 0) ⊎ (_≡_ {A = ℕ} (cond t 0 1) 1)
-    go true = inl refl
-    go false = inr refl
-
-pub request-lt : (m : List ℕ) (n : ℕ) → requests m n < 2
-request-lt m n = ⊎-elim (λ (e : requests m n ≡ 0). omega arith) (λ (e : requests m n ≡ 1). omega arith) (request-bit m n)
+    go : (s : Bool) → (asBit s ≡ 0) ⊎ (asBit s ≡ 1)
+    go true = inr refl
+    go false = inl refl
 
 -- the words of the memory that the code reads are those of the block
 read : (m : List ℕ) (n : ℕ) → requestOf (blockOf m n) ≡ bitAnd (word m n 2) (word m n 3)
 read m n = ap₂ bitAnd (word-block m n 2 (omega arith)) (word-block m n 3 (omega arith))
 
 pub request-none : (m : List ℕ) (n : ℕ) → bitAnd (word m n 2) (word m n 3) ≡ 0 → 0 ≡ requests m n
-unfolding requests
+unfolding requests isRequesting
 request-none m n e = simp (read m n, e)
 
 pub request-some : (m : List ℕ) (n : ℕ) → (bitAnd (word m n 2) (word m n 3) ≡ 0 → ⊥) → 1 ≡ requests m n
-unfolding requests
-request-some m n f = simp (read m n, ne-eqb _ _ f)
-
--- ---- one bit, at its place
-shifted-same : (k r : ℕ) → (r ≡ 0) ⊎ (r ≡ 1) → bitOf k (r * 2 ^ k) ≡ r
-shifted-same k r (inl e) = rw e (simp (zero-mul, zero-div))
-shifted-same k r (inr e) = rw (e, one-mul) (bit-pow-same k)
-
-shifted-other : (k i r : ℕ) → (i ≡ k → ⊥) → (r ≡ 0) ⊎ (r ≡ 1) → bitOf i (r * 2 ^ k) ≡ 0
-shifted-other k i r n (inl e) = rw e (simp (zero-mul, zero-div))
-shifted-other k i r n (inr e) = rw (e, one-mul) (bit-pow-other i k n)
+unfolding requests isRequesting
+request-some m n f = simp (positive _ _ (sym (read m n)) f)
 
 -- ---- the trailing zeros of a number
 -- more digits above a number that is not 0 change nothing
@@ -82,46 +70,36 @@ trailing-one (suc d) (suc k) h =
     ap₂ (λ (x y : ℕ). under x (trailingZeros d y)) odd half ∙ ap suc (trailing-one d k (le-of-suc-le-suc h))
 
 module _ (m : List ℕ) where
-  -- ---- the pattern
+  -- ---- the pattern: bit i is the request of station i + 1
+  abbrev test : ℕ → Bool
+  test i = isRequesting m (suc i)
+
+  pub pattern-zero : patternTo 0 m ≡ 0
+  unfolding patternTo bitsOf
+  pattern-zero = refl
+
   -- one station more
   pattern-suc : (k : ℕ) → patternTo (suc k) m ≡ requests m (suc k) * 2 ^ k + patternTo k m
-  unfolding patternTo
-  pattern-suc k = refl
+  unfolding patternTo requests
+  pattern-suc k = bits-suc test k
 
   pub pattern-lt : (k : ℕ) → patternTo k m < 2 ^ k
   unfolding patternTo
-  pattern-lt zero = omega arith
-  pattern-lt (suc k) =
-      let p = pow-suc 2 k in
-      let ih = pattern-lt k in
-      ⊎-elim
-      (λ (e : requests m (suc k) ≡ 0). rw e (omega arith))
-      (λ (e : requests m (suc k) ≡ 1). rw e (omega arith))
-      (request-bit m (suc k))
+  pattern-lt k = bits-lt test k
 
   -- the bit of station k + 1 put in its place, as `request << k` and `|` do
   pub pattern-or : (k : ℕ) → k < 23 → bitOr (patternTo k m) ((requests m (k + 1) * 2 ^ k) % 2 ^ 32) ≡ patternTo (k + 1) m
-  pattern-or k h =
-      ap (bitOr (patternTo k m)) (shl-exact 1 k 32 (request-lt m (k + 1)) (omega arith))
-      ∙ or-shifted-r (requests m (k + 1)) k (patternTo k m) (pattern-lt k)
-      ∙ rw (add-one k) (sym (pattern-suc k))
+  unfolding patternTo requests
+  pattern-or k h = ap (λ (n : ℕ). bitOr (bitsOf test k) ((asBit (isRequesting m n) * 2 ^ k) % 2 ^ 32)) (add-one k) ∙ bits-or test 32 k (omega arith)
 
-  -- bit i is the request of station i + 1
   pub pattern-bit : (k i : ℕ) → i < k → bitOf i (patternTo k m) ≡ requests m (suc i)
-  pattern-bit zero i h = absurd (not-suc-le-zero h)
-  pattern-bit (suc k) i h =
-      let p : ℕ = patternTo k m in
-      let joined : patternTo (suc k) m ≡ bitOr p (requests m (suc k) * 2 ^ k) =
-      pattern-suc k ∙ sym (or-shifted-r (requests m (suc k)) k p (pattern-lt k)) in
-      ap (bitOf i) joined ∙ bit-or i p (requests m (suc k) * 2 ^ k)
-      ∙ ⊎-elim
-      (λ (e : i ≡ k). rw e (omega (arith, high-bit k k p (pattern-lt k) (omega arith), shifted-same k (requests m (suc k)) (request-bit m (suc k)))))
-      (λ (n : i ≡ k → ⊥). omega (arith, pattern-bit k i (omega arith), shifted-other k i (requests m (suc k)) n (request-bit m (suc k))))
-      (alike i k)
+  unfolding patternTo requests
+  pattern-bit k i h = bits-bit test k i h
 
   -- L is the one 23-bit word whose bit N-1 says whether station N requests
   pub pattern-unique : (l : ℕ) → l < 2 ^ 23 → ((i : ℕ) → i < 23 → bitOf i l ≡ requests m (suc i)) → l ≡ patternTo 23 m
-  pattern-unique l h b = bit-ext 23 l (patternTo 23 m) h (pattern-lt 23) (λ i p. b i p ∙ sym (pattern-bit 23 i p))
+  unfolding patternTo requests
+  pattern-unique l h b = bits-unique test 23 l h b
 
   -- ---- its count of ones
   ones-of-request : (n : ℕ) → ones (requests m n) ≡ requests m n
@@ -129,25 +107,26 @@ module _ (m : List ℕ) where
   ones-of-request n = ⊎-elim (λ (e : requests m n ≡ 0). rw e) (λ (e : requests m n ≡ 1). rw e) (request-bit m n)
 
   pub pattern-ones : (k : ℕ) → ones (patternTo k m) ≡ countTo k m
-  unfolding patternTo countTo ones
+  unfolding patternTo bitsOf requests countTo ones
   pattern-ones zero = refl
   pattern-ones (suc k) = ones-cat k (requests m (suc k)) (patternTo k m) (pattern-lt k) ∙ ap₂ (λ (x y : ℕ). x + y) (ones-of-request (suc k)) (pattern-ones k)
 
   -- ---- its lowest 1
   pub first-none : (k : ℕ) → patternTo k m ≡ 0 → firstTo k m ≡ 0
-  unfolding patternTo firstTo
+  unfolding firstTo
   first-none zero e = refl
   first-none (suc k) e =
+      let q : requests m (suc k) * 2 ^ k + patternTo k m ≡ 0 = sym (pattern-suc k) ∙ e in
       let p : patternTo k m ≡ 0 = omega arith in
       ⊎-elim
       (λ (r : requests m (suc k) ≡ 0). rw (first-none k p, r) (omega arith))
-      (λ (r : requests m (suc k) ≡ 1). absurd (let q : 1 * 2 ^ k + patternTo k m ≡ 0 = rw r at e in omega (arith, pow-pos k)))
+      (λ (r : requests m (suc k) ≡ 1). absurd (let one : 1 * 2 ^ k + patternTo k m ≡ 0 = rw r at q in omega (arith, pow-pos k)))
       (request-bit m (suc k))
 
   pub first-some : (k : ℕ) → k ≤ 23 → (patternTo k m ≡ 0 → ⊥) → trailingZeros 32 (patternTo k m) + 1 ≡ firstTo k m
-  unfolding patternTo firstTo
-  first-some zero l n = absurd (n refl)
-  first-some (suc k) l n = ⊎-elim none (some (first-some k (omega arith))) (alike (patternTo k m) 0)
+  unfolding firstTo
+  first-some zero l n = absurd (n pattern-zero)
+  first-some (suc k) l n = rw (pattern-suc k) (⊎-elim none (some (first-some k (omega arith))) (alike (patternTo k m) 0))
     where
       -- station k + 1 is the lowest
       one : trailingZeros 32 (1 * 2 ^ k + 0) ≡ k
@@ -157,7 +136,7 @@ module _ (m : List ℕ) where
           → trailingZeros 32 (requests m (suc k) * 2 ^ k + patternTo k m) + 1 ≡ cond (eqb (firstTo k m) 0) (requests m (suc k) * suc k) (firstTo k m)
       none p =
           ⊎-elim
-          (λ (r : requests m (suc k) ≡ 0). absurd (n (rw (r, p) (omega arith))))
+          (λ (r : requests m (suc k) ≡ 0). absurd (n (rw (pattern-suc k, r, p) (omega arith))))
           (λ (r : requests m (suc k) ≡ 1). rw (r, p, first-none k p) (omega (arith, one)))
           (request-bit m (suc k))
 

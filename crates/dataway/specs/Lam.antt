@@ -1,20 +1,24 @@
 -- The Look-at-Me reading (01, 'Front panel and common controls'): L, how many of its bits are 1, and the lowest requesting station.
-use Prim.Native.Nat.{ℕ, zero, suc, _+_, _*_, _^_}
+use Prim.Native.Nat.{ℕ, zero, suc, _+_, _*_}
 use mathlib.Core.List.{List}
-use mathlib.Core.Bool.{cond}
+use mathlib.Core.Bool.{Bool, cond}
 use lib.Dec.{ltb, eqb}
+use Rattle.word24.specs.Word.{asBit, bitsOf}
 use Rattle.blocks.specs.Blocks.{blockOf}
 use Rattle.station.specs.Block.{requestOf}
 use Rattle.dataway.specs.declared.lam.LamReading.{LamReading}
 
--- 1 where station n has status AND mask above 0, else 0
+-- whether station n requests: its status AND mask is above 0
+unfoldable pub isRequesting : List ℕ → ℕ → Bool
+isRequesting m n = ltb 0 (requestOf (blockOf m n))
+
+-- 1 where it does, else 0
 unfoldable pub requests : List ℕ → ℕ → ℕ
-requests m n = cond (eqb (requestOf (blockOf m n)) 0) 0 1
+requests m n = asBit (isRequesting m n)
 
 -- L of stations 1 to k: bit N-1 is 1 when station N requests
 unfoldable pub patternTo : ℕ → List ℕ → ℕ
-patternTo zero m = 0
-patternTo (suc k) m = requests m (suc k) * 2 ^ k + patternTo k m
+patternTo k m = bitsOf (λ i. isRequesting m (suc i)) k
 
 -- how many of stations 1 to k request
 unfoldable pub countTo : ℕ → List ℕ → ℕ

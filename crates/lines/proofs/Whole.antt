@@ -10,7 +10,8 @@ use lib.Dec.{eqb}
 use lib.ListN.{length, take}
 use Rattle.lines.specs.Lines.{lastLine, cut, linesOf}
 use Rattle.lines.specs.Cutting.{Does, Cutting, fresh, opened, ended, kept, step, feed, closed, afterLines, feedParts, join}
-use Rattle.lines.proofs.CuttingLaws.{open-still, shut-over, shut-ended, ended-part, ended-number, kept-part, kept-number, kept-held, step-end, step-kept, feed-append, feed-shut, closed-shut, closed-none, closed-end}
+use Rattle.lines.proofs.CuttingLaws.{open-still, shut-over, shut-ended, ended-part, ended-number, kept-part, kept-number, kept-held}
+use Rattle.lines.proofs.CuttingLaws.{step-end, step-kept, feed-append, feed-shut, closed-shut, closed-none, closed-end}
 
 -- whatever the parts
 module _ {S : Type 0} (d : Does S) where

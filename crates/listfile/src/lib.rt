@@ -19,11 +19,11 @@ pub struct ListReader {
     pub number: usize,
 }
 
-// Lines of a file that are read.
-pub const LINES: usize = 99999;
+// Lines of a file that are read, as a size.
+const LINES: usize = lines::LINES as usize;
 
 // Words of so many steps.
-pub const LIST_WORDS: usize = 599994;
+pub const LIST_WORDS: usize = LINES * STEP_WORDS;
 
 // The reading of a line as six words.
 fn write_reading(out: &mut [u32], reading: Reading)

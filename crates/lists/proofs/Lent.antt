@@ -14,7 +14,7 @@ use Rattle.step.specs.declared.Reading.the-variants.{Bad}
 use Rattle.controller.specs.Steps.{order, Performed, performed, doneOf, stepOf, leaves, gives}
 use Rattle.controller.specs.declared.Answer.{Answer}
 use Rattle.controller.proofs.StepLaws.{step-done}
-use Rattle.lists.specs.Words.{kindsOf, readingOf, part, withPart, orderAt}
+use Rattle.lists.specs.Words.{kindsOf, readingOf, withPart, orderAt}
 use Rattle.lists.proofs.Parts.{part-lent, part-back}
 
 -- a number that is none of the nine is garbled

@@ -2,15 +2,17 @@
 -- words are a part of all.
 -- Assumes nothing.
 use Prim.Native.Nat.{ℕ, zero, suc, _+_, _*_, _≤_, _<_}
-use mathlib.Core.Path.{_≡_, refl, ap, _∙_}
+use mathlib.Core.Path.{_≡_, refl, sym, ap, _∙_}
+use mathlib.Core.Logic.{_⊎_, inl, inr}
 use mathlib.Core.List.{List, [], _∷_, _++_, append-assoc}
-use native.Mathlib.Nat.{not-suc-le-zero, le-of-suc-le-suc, mul-suc, mul-zero}
+use native.Mathlib.Nat.{not-suc-le-zero, le-of-suc-le-suc, eq-or-lt-of-le, mul-suc, mul-zero}
 use native.Mathlib.Omega.{arith}
-use lib.ListN.{length, getD, take, drop, length-append}
-use lib.Seq.{take-at, drop-append-add}
+use lib.ListN.{length, getD, take, drop, length-append, List·getD-append}
+use lib.Seq.{getD-at, take-at, drop-append-add}
 use Rattle.regroup.specs.Lists.{outs}
 use Rattle.controller.specs.Answers.{answerWords}
 use Rattle.controller.specs.Steps.{Order, Out, leaves, gives}
+use Rattle.controller.specs.Regrouping.{beyond}
 use Rattle.controller.specs.declared.Answer.{Answer}
 use Rattle.controller.specs.declared.Answer.the-variants.{Replied, Taken, Done, Looked, Transferred, Refused}
 use Rattle.controller.proofs.Sentences.{step-long}
@@ -79,3 +81,14 @@ pub orders-length : (ws bs : List ℕ) (k : ℕ) → length (ordersOf ws bs k) �
 unfolding ordersOf
 orders-length ws bs zero = refl
 orders-length ws bs (suc k) = length-append (ordersOf ws bs k) (orderAt ws k bs k ∷ []) ∙ omega (arith, orders-length ws bs k)
+
+-- order i is step i with its own buffer
+pub order-at : (ws bs : List ℕ) (k i : ℕ) → i < k → getD (ordersOf ws bs k) i beyond ≡ orderAt ws i bs i
+unfolding ordersOf
+order-at ws bs zero i h = absurd (not-suc-le-zero h)
+order-at ws bs (suc k) i h = go (eq-or-lt-of-le (le-of-suc-le-suc h)) (λ l. order-at ws bs k i l)
+  where
+    go : (i ≡ k) ⊎ (i < k) → (i < k → getD (ordersOf ws bs k) i beyond ≡ orderAt ws i bs i)
+        → getD (ordersOf ws bs k ++ (orderAt ws k bs k ∷ [])) i beyond ≡ orderAt ws i bs i
+    go (inl e) ih = getD-at (ordersOf ws bs k) (orderAt ws k bs k) [] beyond i (orders-length ws bs k ∙ sym e) ∙ ap (λ (j : ℕ). orderAt ws j bs j) (sym e)
+    go (inr l) ih = List·getD-append (ordersOf ws bs k) (orderAt ws k bs k ∷ []) beyond i (omega (arith, orders-length ws bs k)) ∙ ih l

@@ -74,7 +74,9 @@ module _ (m₀ ws a₀ b₀ m a b : List ℕ) (count k : ℕ) (ha : 4 * count �
     answers =
         part-back 4 a k z
         ∙ part-done 4 k a₀ a (joined answerOf front) (omega arith) (s .along) (s .answers) z
-        ∙ ap₂ (λ (x : List ℕ) (i : ℕ). x ++ drop i a₀) (ap (λ (x : List ℕ). joined answerOf front ++ x) (ez ∙ ap answerWords (er ∙ ap (λ (o : Out). o .answer) gave)) ∙ sym (words answerOf)) four;
+        ∙ ap₂ (λ (x : List ℕ) (i : ℕ). x ++ drop i a₀)
+        (ap (λ (x : List ℕ). joined answerOf front ++ x) (ez ∙ ap answerWords (er ∙ ap (λ (o : Out). o .answer) gave)) ∙ sym (words answerOf))
+        four;
     buffers =
         eb
         ∙ part-done 512 k b₀ b (joined bufferOf front) (omega arith) (s .blong) (s .buffers) (gives m (orderAt ws k b k) .buffer)
@@ -83,7 +85,9 @@ module _ (m₀ ws a₀ b₀ m a b : List ℕ) (count k : ℕ) (ha : 4 * count �
     where
       -- the step is the list's, with the buffer that the list was lent
       here : orderAt ws k b k ≡ orderAt ws k b₀ k
-      here = ap (λ (x : List ℕ). record { reading = readingOf (part 6 ws k); buffer = x }) (next-part 512 k b₀ b (joined bufferOf front) (omega arith) (s .blong) (s .buffers))
+      here =
+          ap (λ (x : List ℕ). record { reading = readingOf (part 6 ws k); buffer = x })
+          (next-part 512 k b₀ b (joined bufferOf front) (omega arith) (s .blong) (s .buffers))
 
       last : Out
       last = gives (run leaves m₀ (ordersOf ws b₀ k)) (orderAt ws k b₀ k)
@@ -92,7 +96,10 @@ module _ (m₀ ws a₀ b₀ m a b : List ℕ) (count k : ℕ) (ha : 4 * count �
       gave = ap₂ (λ (x : List ℕ) (o : Order). gives x o) (s .memory) here
 
       words : (g : Out → List ℕ) → joined g (outs leaves gives m₀ (ordersOf ws b₀ (k + 1))) ≡ joined g front ++ g last
-      words g = ap (λ (l : List Order). joined g (outs leaves gives m₀ l)) (orders-more ws b₀ k) ∙ ap (joined g) (outs-snoc m₀ (ordersOf ws b₀ k) (orderAt ws k b₀ k)) ∙ joined-snoc g front last
+      words g =
+          ap (λ (l : List Order). joined g (outs leaves gives m₀ l)) (orders-more ws b₀ k)
+          ∙ ap (joined g) (outs-snoc m₀ (ordersOf ws b₀ k) (orderAt ws k b₀ k))
+          ∙ joined-snoc g front last
 
       four : 4 * k + 4 ≡ 4 * (k + 1)
       four = omega arith

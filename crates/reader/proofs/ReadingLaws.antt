@@ -3,14 +3,13 @@
 use Prim.Native.Nat.{ℕ, zero, suc, _+_, _≤_, _<_}
 use mathlib.Core.Path.{_≡_, refl, sym, ap, _∙_}
 use mathlib.Core.Bool.{Bool, true, false, cond}
-use mathlib.Core.List.{List, [], _∷_, _++_}
-use native.Mathlib.Numerals.{add-one}
+use mathlib.Core.List.{List}
 use native.Mathlib.Omega.{arith}
 use borrow.Author.Tests.{lt-ltb, le-ltb, eq-eqb, ne-eqb}
-use lib.ListN.{length, set, take, replicate, length-append}
-use lib.Seq.{take-suc-set, length-take-le}
-use Rattle.lines.specs.Cutting.{Cutting, opened, ended, kept, step, closed}
-use Rattle.lines.proofs.CuttingLaws.{open-still as still, shut-over as over, shut-ended as stopped, step-shut, step-end as at-end, step-kept as at-kept, closed-shut, closed-none as close-none, closed-end as close-end}
+use lib.ListN.{length, replicate, length-append}
+use lib.Seq.{length-take-le}
+use Rattle.lines.specs.Cutting.{Cutting, opened, ended, step, closed}
+use Rattle.lines.proofs.CuttingLaws.{open-still as still, shut-over as over, shut-ended as stopped, step-shut, step-end as at-end, closed-shut, closed-none as close-none, closed-end as close-end}
 use Rattle.lines.proofs.CuttingLaws as cutting
 use Rattle.text.specs.Paste.{pasted, Put}
 use Rattle.dataway.specs.Crate.{FitCrate}
@@ -104,22 +103,6 @@ module _ (s : State) (b : ℕ) where
 
   pub step-end : s .number < 99999 → s .held .phase < 2 → b ≡ 10 → ended rehearsing s ≡ step rehearsing s b
   step-end h k e = sym (at-end rehearsing s b (open-still s h k) (eq-eqb b 10 e))
-
-  pub step-kept : s .number < 99999 → s .held .phase < 2 → (b ≡ 10 → ⊥) → kept s b ≡ step rehearsing s b
-  step-kept h k e = sym (at-kept rehearsing s b (open-still s h k) (ne-eqb b 10 e))
-
-  pub kept-full : 81 ≤ length (s .part) → s ≡ kept s b
-  unfolding kept
-  kept-full h = cutting.states (sym (ap (λ (t : Bool). cond t (s .part ++ (b ∷ [])) (s .part)) (le-ltb (length (s .part)) 81 h))) refl refl
-
--- one byte more of a line
-pub kept-more : (l m o : List ℕ) (f n p d b : ℕ) → f < 81 → length l ≡ 81
-    → _≡_ {A = Cutting Work} (record { part = take (f + 1) (set l f b); number = n; held = record { phase = p; previous = d; memory = m; printed = o } })
-    (kept (record { part = take f l; number = n; held = record { phase = p; previous = d; memory = m; printed = o } }) b)
-unfolding kept
-kept-more l m o f n p d b h e =
-    let lt : length (take f l) < 81 = rw (length-take-le f l (omega arith)) h in
-    states (rw (add-one f, take-suc-set l f b (omega arith), lt-ltb (length (take f l)) 81 lt)) refl refl refl refl refl
 
 -- ---- the end of a file
 module _ (s : State) where

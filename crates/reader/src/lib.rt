@@ -163,11 +163,11 @@ fn end_line(s: Reader, line: &[u8], memory: &mut [u32], out: &mut [u8]) -> Reade
     end_module_line(s, line, memory, out)
 }
 
-// Takes one byte of a file.
-fn take_byte(s: Reader, b: u8, line: &mut [u8], memory: &mut [u32], out: &mut [u8]) -> Reader
+// Takes the LF after the bytes of a line.
+fn take_lf(s: Reader, line: &[u8], memory: &mut [u32], out: &mut [u8]) -> Reader
     requires { ⌜ Ready s (now line) (now memory) (now out) ⌝ }
-    ensures { λ r. ⌜ stateOf r (now (line .exit)) (now (memory .exit)) (now (out .exit)) ≡ step rehearsing (stateOf s (now (line .entry)) (now (memory .entry)) (now (out .entry))) b ⌝ }
-    ensures { λ r. ⌜ Held r (now (line .exit)) (now (memory .exit)) (now (out .exit)) ⌝ }
+    ensures { λ r. ⌜ stateOf r (now (line .entry)) (now (memory .exit)) (now (out .exit)) ≡ step rehearsing (stateOf s (now (line .entry)) (now (memory .entry)) (now (out .entry))) 10 ⌝ }
+    ensures { λ r. ⌜ Held r (now (line .entry)) (now (memory .exit)) (now (out .exit)) ⌝ }
 {
     if s.number >= LINES {
         return s;
@@ -175,21 +175,7 @@ fn take_byte(s: Reader, b: u8, line: &mut [u8], memory: &mut [u32], out: &mut [u
     if s.phase >= 2 {
         return s;
     }
-    if b == 10 {
-        return end_line(s, line, memory, out);
-    }
-    let fill = s.fill;
-    if fill >= LINE_BYTES {
-        return s;
-    }
-    line[fill] = b;
-    Reader {
-        fill: fill + 1,
-        number: s.number,
-        phase: s.phase,
-        previous: s.previous,
-        at: s.at,
-    }
+    end_line(s, line, memory, out)
 }
 
 // Takes bytes of a line, none of which is LF.
@@ -265,7 +251,7 @@ fn take_line(
         }
     }
     let r = take_span(s, &text[..n], line);
-    take_byte(r, text[n], line, memory, out)
+    take_lf(r, line, memory, out)
 }
 
 // How far a part of a file was taken.

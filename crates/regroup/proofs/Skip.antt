@@ -1,7 +1,7 @@
 -- A list without its element at place k, and where its other places were before: place j of the shorter list was place `skip k j` of the longer one.
 -- That is j below k and j + 1 from k on (`skip-cases`), and every law of `skip` is those two cases and arithmetic.
 -- Assumes nothing.
-use mathlib.Core.Path.{_≡_, refl, sym, ap, _∙_}
+use mathlib.Core.Path.{_≡_, refl, ap}
 use mathlib.Core.Logic.{_⊎_, inl, inr}
 use mathlib.Core.List.{List, [], _∷_}
 use Prim.Native.Nat.{ℕ, zero, suc, pred, _≤_, _<_}

@@ -1,14 +1,16 @@
 -- A crate line on a memory that is not fit, and on one that is.
 -- Assumes nothing.
 use Prim.Native.Nat.{ℕ}
-use mathlib.Core.Path.{_≡_}
+use mathlib.Core.Path.{_≡_, sym, ap}
 use mathlib.Core.Bool.{true, false}
 use mathlib.Core.List.{List}
 use Rattle.dataway.specs.Crate.{isFitCrate}
+use Rattle.step.specs.Refusals.{verdictNumber}
 use Rattle.step.specs.declared.Refusal.{Refusal}
 use Rattle.step.specs.declared.Refusal.the-variants.{UnfitCrate}
 use Rattle.step.specs.declared.ModuleLine.{ModuleLine}
 use Rattle.step.specs.declared.ModuleLine.the-variants.{Bad}
+use Rattle.step.specs.declared.Verdict.{Verdict}
 use Rattle.controller.specs.Placing.{Installed, uninstalled, placeOf}
 use Rattle.rehearsal.specs.Modules.{installOf}
 
@@ -24,3 +26,8 @@ module _ (m : List ℕ) (previous : ℕ) where
   pub install-bad : (l : ModuleLine) (q : Refusal) → isFitCrate m ≡ true → l ≡ Bad q → installOf m previous l ≡ uninstalled q m
   unfolding installOf placeOf
   install-bad l q t e = rw (t, e)
+
+  -- the verdict on a crate line, told by its number as well
+  pub install-numbered : (l : ModuleLine) (v : Verdict) (m′ : List ℕ) → installOf m previous l ≡ record { verdict = v; memory = m′ }
+      → (installOf m previous l ≡ record { verdict = v; memory = m′ }) × (verdictNumber v ≡ verdictNumber (installOf m previous l .verdict))
+  install-numbered l v m′ e = (e, ap (λ (i : Installed). verdictNumber (i .verdict)) (sym e))

@@ -3,7 +3,7 @@
 // the text of a step or of a module, which is what the paper says.
 mod bare;
 mod commands;
-mod fields;
+pub mod fields;
 mod modules;
 mod transfers;
 

@@ -10,9 +10,9 @@ use lib.Seq.{length-take-le, take-suc, take-length, take-all}
 use lib.Dec.{leb}
 use borrow.Author.Tests.{leb-true, leb-false}
 use mathlib.Core.Bool.{Bool, true, false}
-use Rattle.text.specs.Text.{bytes, field, decimal}
+use Rattle.text.specs.Text.{bytes, decimal}
 use Rattle.text.specs.Paste.{Put}
-use Rattle.text.proofs.Decimal.{length-ten}
+use Rattle.text.proofs.Decimal.{length-ten, field-short}
 use Rattle.text.proofs.Paste.{paste-nothing}
 use Rattle.step.specs.Refusals.{refusalNumber}
 use Rattle.step.specs.declared.Refusal.{Refusal}
@@ -22,15 +22,11 @@ use Rattle.controller.specs.declared.Answer.{Answer}
 use Rattle.controller.specs.declared.Answer.the-variants.{Replied, Taken, Done, Looked, Transferred, Refused}
 use Rattle.sheet.specs.Answers.{body, stepLine, stored, wordLine, wordLines, stepText, crateText}
 
--- a key and a number
-pub field-short : (key : List ℕ) (n : ℕ) → length (key ++ decimal n) ≤ length key + 10
-field-short key n = simp length-append (omega (arith, length-ten n))
-
 -- room for a number of ten digits is room for any
 pub field-room : (at k n len : ℕ) → at + k + 10 ≤ len → at + k + length (decimal n) ≤ len
 field-room at k n len h = omega (arith, length-ten n)
 
--- three of them
+-- three keys, each with a number
 pub three-short : (a b c : List ℕ) (x y z : ℕ)
     → length ((a ++ decimal x) ++ (b ++ decimal y) ++ (c ++ decimal z)) ≤ length a + length b + length c + 30
 three-short a b c x y z = simp length-append (omega (arith, length-ten x, length-ten y, length-ten z))
@@ -67,10 +63,6 @@ put-nothing o at = record { buffer = sym (paste-nothing o at); place = sym (add-
 -- text of at most n bytes ends at most n places on
 pub put-end : {o p t : List ℕ} {at next : ℕ} (n : ℕ) → Put o at t p next → length t ≤ n → next ≤ at + n
 put-end n f h = omega (arith, f .place, h)
-
--- so a key and a number end at most ten places past the key
-pub after-field : {o p : List ℕ} {at next : ℕ} (key : List ℕ) (n : ℕ) → Put o at (key ++ decimal n) p next → next ≤ at + length key + 10
-after-field key n f = omega (arith, f .place, field-short key n)
 
 -- the word lines of the first i words
 pub words-end : {o p : List ℕ} {at next : ℕ} (ws : List ℕ) (i : ℕ) → i ≤ length ws → Put o at (wordLines (take i ws)) p next → next ≤ at + 16 * i

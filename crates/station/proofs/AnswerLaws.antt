@@ -195,7 +195,9 @@ module _ (b : List ℕ) (a w : ℕ) (Word : ℕ → Type 0) (v : Words b a Word)
 
 -- Q is 0 or 1, whatever the words
 pub command-q : QIsBit
-command-q b a f w = go (sorted b a w (λ (r : ℕ). Unit {0}) (record { none = tt; here = tt; here-complement = tt; oldest = tt; oldest-complement = tt; status = tt; mask = tt; request = tt }) f)
+command-q b a f w =
+    go (sorted b a w (λ (r : ℕ). Unit {0})
+    (record { none = tt; here = tt; here-complement = tt; oldest = tt; oldest-complement = tt; status = tt; mask = tt; request = tt }) f)
   where
     go : Sorted b (λ (r : ℕ). Unit {0}) (commandOf b a f w) → commandOf b a f w .reply .q < 2
     go (out e) = omega (arith, ap (λ (o : Outcome). o .reply .q) e)

@@ -1,6 +1,6 @@
 -- Laws of a block's words: which stores keep a fit block fit and its module the same. Every step's law is put together from these.
 -- Assumes nothing.
-use Prim.Native.Nat.{ℕ, zero, suc, _+_, _-_, _≤_, _<_, _^_, _%_}
+use Prim.Native.Nat.{ℕ, _+_, _-_, _≤_, _<_, _^_, _%_}
 use mathlib.Core.Path.{_≡_, refl, sym, ap, subst, _∙_}
 use mathlib.Core.List.{List, [], _∷_, _++_, append-nil}
 use mathlib.Core.Bool.{Bool, true, false, true≢false}
@@ -9,14 +9,14 @@ use native.Mathlib.Omega.{arith}
 use native.Mathlib.Nat.{lt-of-le-of-lt}
 use borrow.Author.Tests.{ltb-false, lt-ltb, le-ltb, eq-eqb, ne-eqb}
 use borrow.Rule.Slice.PartMut.{putMid, midOf}
-use lib.ListN.{length, getD, set, take, drop, replicate, length-set, length-append, length-take, length-drop, length-replicate, drop-of-length-le, List·getD-append, getD-replicate}
-use lib.Seq.{getD-set-same, getD-set-other, set-getD, length-take-le, getD-take, getD-drop, getD-append-add}
+use lib.ListN.{length, getD, set, take, drop, replicate, length-set, length-append, length-drop, drop-of-length-le, List·getD-append, getD-replicate}
+use lib.Seq.{getD-set-same, getD-set-other, length-take-le, getD-take, getD-drop, getD-append-add}
 use lib.Pow.{pow-lt}
 use lib.Bits.{or-lt}
-use lib.Dec.{ltb}
 use Rattle.word24.specs.Word.{clearBits, setBits}
 use Rattle.word24.proofs.BitLaws.{clear-le}
-use Rattle.station.specs.Block.{kindOf, countOf, statusOf, maskOf, headOf, fillOf, fixedOf, registerOf, withStatus, withMask, withHead, withFill, withRegister, setStatusBit, setStatusBitWhen, clearStatusBit, zeroedOf, sourcesOf, isUsed, FitBlock}
+use Rattle.station.specs.Block.{kindOf, countOf, statusOf, maskOf, headOf, fillOf, fixedOf, registerOf, withStatus, withMask, withHead}
+use Rattle.station.specs.Block.{withFill, withRegister, setStatusBit, setStatusBitWhen, zeroedOf, sourcesOf, isUsed, FitBlock}
 use Rattle.station.specs.Kept.{SameModule, Kept}
 use Rattle.kinds.specs.Table.{lastHeadOf, mostFillOf}
 use Rattle.kinds.proofs.TestLaws.{by-cases, alike}

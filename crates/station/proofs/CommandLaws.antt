@@ -9,20 +9,22 @@ use borrow.Author.Tests.{ltb-true, eqb-true, eqb-false}
 use lib.Pow.{pow-pos}
 use lib.Bits.{or-lt}
 use lib.Dec.{ltb, eqb}
-use Rattle.word24.specs.Word.{sumOf, carryOf, setBits, clearBits, bitOf}
+use Rattle.word24.specs.Word.{sumOf, carryOf}
 use Rattle.word24.proofs.BitLaws.{low-bits-lt}
-use Rattle.kinds.specs.Cases.{isOneOf, Case, caseOf}
-use Rattle.station.specs.Block.{kindOf, countOf, statusOf, maskOf, headOf, fillOf, registerOf, requestOf, withStatus, withMask, withRegister, clearStatusBit, setMaskBit, clearMaskBit, isBuffer, sourcesOf, zeroedOf, FitBlock}
-use Rattle.station.specs.Outcome.{Outcome, accept, notAccepted, done, gives, tells}
-use Rattle.station.specs.Buffer.{oldestOf, unlessEmpty, shortenedOf, withoutOldest, bufferReadOf, bufferReadComplementOf, bufferReadAndClearOf, bufferClearOf}
-use Rattle.station.specs.Group1.{group1, registerKinds, readOf, readAndClearOf, readComplementOf, clearOf, overwriteOf, selectiveSetOf, selectiveClearOf, addedOf, executeOf}
+use Rattle.kinds.specs.Cases.{isOneOf, Case}
+use Rattle.station.specs.Block.{kindOf, countOf, statusOf, maskOf, headOf, fillOf, registerOf, withRegister, clearStatusBit, isBuffer, sourcesOf, FitBlock}
+use Rattle.station.specs.Outcome.{Outcome, accept, notAccepted, tells}
+use Rattle.station.specs.Buffer.{unlessEmpty, shortenedOf, withoutOldest, bufferReadOf, bufferReadComplementOf, bufferReadAndClearOf, bufferClearOf}
+use Rattle.station.specs.Group1.{group1, registerKinds, readOf, readAndClearOf, readComplementOf, clearOf}
+use Rattle.station.specs.Group1.{overwriteOf, selectiveSetOf, selectiveClearOf, addedOf, executeOf}
 use Rattle.station.specs.Lam.{lam, testLamOf, testStatusOf, clearLamOf, disableOf, enableOf}
 use Rattle.station.specs.Group2.{group2, lowOf, readGroup2Of, clearGroup2Of, overwriteGroup2Of, selectiveSetGroup2Of, selectiveClearGroup2Of}
 use Rattle.station.specs.Command.{functionsOf, commandOf}
 use Rattle.station.specs.Kept.{Kept}
 use Rattle.kinds.proofs.TestLaws.{both-fst, both-snd, by-cases, one-of-only, one-of-apart, EachCase, case-all, Rest, case-else}
 use Rattle.station.proofs.KindTable.{sources-at}
-use Rattle.station.proofs.BlockLaws.{sources-same, kept-here, kept-then, kept-status, kept-mask, bit-set-below, bits-clear-below, kept-status-bit-when, kept-register, moved, kept-moved, kept-zeroed}
+use Rattle.station.proofs.BlockLaws.{sources-same, kept-here, kept-then, kept-status, kept-mask, bit-set-below, bits-clear-below}
+use Rattle.station.proofs.BlockLaws.{kept-status-bit-when, kept-register, kept-moved, kept-zeroed}
 
 -- a code of no case is not accepted
 pub command-else : (b : List ℕ) (a f w : ℕ) → Rest Unit f (functionsOf b a w) → commandOf b a f w ≡ notAccepted b

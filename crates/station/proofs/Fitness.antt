@@ -1,20 +1,19 @@
 -- The test `isFitBlock` and the facts `FitBlock` say the same of a block.
 -- Assumes nothing.
-use Prim.Native.Nat.{ℕ, _+_, _≤_, _<_, _^_}
-use mathlib.Core.Path.{_≡_, refl, sym, ap, _∙_}
-use mathlib.Core.List.{List, [], _∷_}
-use mathlib.Core.Bool.{Bool, true, false, cond, _&&_, _||_}
+use Prim.Native.Nat.{ℕ, _≤_, _<_, _^_}
+use mathlib.Core.Path.{_≡_}
+use mathlib.Core.List.{List}
+use mathlib.Core.Bool.{true, false, _||_}
 use mathlib.Core.Logic.{⊎-elim}
 use native.Mathlib.Omega.{arith}
 use borrow.Author.Tests.{ltb-true, leb-true, eqb-true, lt-ltb, le-leb, lt-leb, eq-eqb}
-use lib.ListN.{length, getD}
 use lib.Dec.{leb, ltb, eqb}
-use Rattle.kinds.specs.Cases.{allOf, every}
 use Rattle.kinds.specs.Table.{leastOf, mostOf, lastHeadOf, mostFillOf, inTable}
 use Rattle.kinds.proofs.TableLaws.{table-facts, facts-table, head-few, fill-few}
-use Rattle.station.specs.Block.{kindOf, countOf, statusOf, maskOf, headOf, fillOf, spareOf, registerOf, sourcesOf, isUsed, headerTests, isFitHeader, isFitSpare, isFitRegister, fitTests, isFitBlock, FitBlock}
+use Rattle.station.specs.Block.{kindOf, countOf, statusOf, maskOf, headOf, fillOf, spareOf, registerOf, sourcesOf, isUsed}
+use Rattle.station.specs.Block.{headerTests, isFitHeader, isFitSpare, isFitRegister, fitTests, isFitBlock, FitBlock}
 use Rattle.station.proofs.KindTable.{block-sources-few}
-use Rattle.kinds.proofs.TestLaws.{both-fst, both-snd, every-at, every-intro, by-cases, both-true, all-true, all-intro, decided}
+use Rattle.kinds.proofs.TestLaws.{both-fst, both-snd, every-at, every-intro, both-true, all-true, all-intro, decided}
 
 -- what the header's test says
 pub record Header (b : List ℕ) : Type 0 where

@@ -1,9 +1,8 @@
 -- Every front event keeps a fit block fit and its module the same: kind by kind, then all at once.
 -- Assumes nothing.
 use Prim.Native.Nat.{ℕ, _+_, _-_, _<_, _^_, _%_}
-use mathlib.Core.Path.{_≡_, subst, sym, ap, _∙_}
+use mathlib.Core.Path.{_≡_, subst}
 use mathlib.Core.List.{List}
-use mathlib.Core.Bool.{Bool, true, false}
 use native.Mathlib.Omega.{arith}
 use borrow.Author.Tests.{ltb-true}
 use lib.Seq.{set-getD, getD-set-other}
@@ -11,12 +10,12 @@ use lib.Dec.{ltb, eqb}
 use Rattle.word24.specs.Counter.{mod24, exactSum, raisesAt}
 use Rattle.word24.proofs.CounterLaws.{mod24-lt}
 use Rattle.kinds.specs.Cases.{caseOf}
-use Rattle.station.specs.Block.{kindOf, countOf, headOf, fillOf, registerOf, withHead, withFill, withRegister, setStatusBit, sourcesOf, FitBlock}
+use Rattle.station.specs.Block.{kindOf, countOf, headOf, fillOf, registerOf, withHead, withFill, withRegister, setStatusBit, FitBlock}
 use Rattle.station.specs.Front.{Event, taken, notTaken, heldOf, countedOf, storedOf, kindEventsOf, frontOf}
 use Rattle.station.specs.Kept.{Kept}
 use Rattle.kinds.proofs.TestLaws.{by-cases, EachCase, case-all}
 use Rattle.station.proofs.KindTable.{sources-at}
-use Rattle.station.proofs.BlockLaws.{sources-same, kept-here, kept-then, kept-status-bit, kept-status-bit-when, kept-register, moved, kept-moved}
+use Rattle.station.proofs.BlockLaws.{sources-same, kept-here, kept-then, kept-status-bit, kept-status-bit-when, kept-register, kept-moved}
 use Rattle.station.proofs.CommandLaws.{kept-added}
 
 -- ---- a buffer memory with one word more

@@ -1,6 +1,6 @@
 -- The common controls at a station (01, 'Front panel and common controls'), and the block of a module just put in.
 use Prim.Native.Nat.{ℕ, zero, suc}
-use mathlib.Core.List.{List, [], _∷_}
+use mathlib.Core.List.{List, _∷_}
 use lib.ListN.{replicate}
 use Rattle.kinds.specs.declared.Module.{Module}
 use Rattle.station.specs.Block.{countOf, zeroedOf}

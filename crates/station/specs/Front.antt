@@ -1,7 +1,7 @@
 -- A front event at a station, given Inhibit I (01, 'Front panel and common controls').
 use Prim.Native.Nat.{ℕ, _+_, _%_}
 use mathlib.Core.List.{List, [], _∷_}
-use mathlib.Core.Bool.{Bool, cond}
+use mathlib.Core.Bool.{cond}
 use lib.Dec.{ltb, eqb}
 use Rattle.word24.specs.Counter.{exactSum, mod24, raisesAt}
 use Rattle.kinds.specs.Cases.{Case, _does_, caseOf}

@@ -1,7 +1,7 @@
 -- Group 1: the registers (01, 'The 32 functions'). Accepted at A below r.
 use Prim.Native.Nat.{ℕ}
 use mathlib.Core.List.{List, [], _∷_}
-use mathlib.Core.Bool.{Bool, cond, _&&_}
+use mathlib.Core.Bool.{cond, _&&_}
 use lib.Dec.{ltb}
 use Rattle.word24.specs.Word.{sumOf, carryOf, complementOf, setBits, clearBits}
 use Rattle.kinds.specs.Cases.{isOneOf}

@@ -9,7 +9,8 @@ use Rattle.step.specs.declared.Refusal.{Refusal}
 use Rattle.step.specs.declared.Refusal.the-variants.{NoSuchStation, NoSuchSubaddress, NoSuchFunction, OverwideWord, CrossedRange, BadLength, ShortBuffer}
 use Rattle.step.specs.declared.Verdict.{Verdict}
 use Rattle.step.specs.declared.Verdict.the-variants.{Fine}
-use Rattle.step.specs.Verdict.{within, unless, isFine, transfer, stationThen, subaddressThen, transferThen, commandVerdict, frontVerdict, inhibitVerdict, scanVerdict, repeatVerdict, stopVerdict}
+use Rattle.step.specs.Verdict.{within, unless, isFine, transfer, stationThen, subaddressThen, transferThen}
+use Rattle.step.specs.Verdict.{commandVerdict, frontVerdict, inhibitVerdict, scanVerdict, repeatVerdict, stopVerdict}
 
 -- the test was passed, and what follows it is fine
 pub unless-fine : (t : Bool) (q : Refusal) (v : Verdict) → isFine (unless t q v) ≡ true → (t ≡ true) × (isFine v ≡ true)

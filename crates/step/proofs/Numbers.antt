@@ -6,7 +6,8 @@ use Prim.Native.Nat.{ℕ, _-_, _≤_}
 use native.Mathlib.Omega.{arith}
 use lib.ListN.{length, getD}
 use Rattle.step.specs.declared.Refusal.{Refusal}
-use Rattle.step.specs.declared.Refusal.the-variants.{Garbled, NoSuchStation, NoSuchSubaddress, NoSuchFunction, OverwideWord, CrossedRange, BadLength, ShortBuffer, UnfitCrate, BadModule, OutOfOrder}
+use Rattle.step.specs.declared.Refusal.the-variants.{Garbled, NoSuchStation, NoSuchSubaddress, NoSuchFunction, OverwideWord, CrossedRange, BadLength}
+use Rattle.step.specs.declared.Refusal.the-variants.{ShortBuffer, UnfitCrate, BadModule, OutOfOrder}
 use Rattle.step.specs.Refusals.{refusalNumber, refusals}
 
 -- the rows

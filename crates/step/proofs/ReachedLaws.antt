@@ -2,19 +2,22 @@
 -- Assumes nothing.
 use mathlib.Core.Path.{_≡_, refl, ap, _∙_, subst}
 use mathlib.Core.Bool.{true, false, false≢true, _&&_, and-eq-true-iff}
+use mathlib.Core.List.{List}
 use Prim.Native.Nat.{ℕ, _≤_}
+use native.Mathlib.Omega.{arith}
 use borrow.Author.Tests.{eqb-true, eq-eqb, le-leb}
+use lib.ListN.{length}
 use Rattle.step.specs.declared.Step.{Step}
 use Rattle.step.specs.declared.Step.the-variants.{Command, Front, Z, C, Inhibit, LookAtMe, Scan, Repeat, Stop}
 use Rattle.step.specs.declared.Reading.{Reading}
 use Rattle.step.specs.declared.Reading.the-variants.{Good, Bad}
 use Rattle.step.specs.declared.Verdict.{Verdict}
 use Rattle.step.specs.declared.Verdict.the-variants.{Fine, Refuse}
-use Rattle.step.specs.Verdict.{isFine, verdictOf}
+use Rattle.step.specs.Verdict.{isFine, stepVerdict, verdictOf}
 use Rattle.step.specs.Touches.{reach, reachOf, touchesOf}
 use Rattle.step.specs.Reached.{Reached, TouchesExact}
 use Rattle.step.specs.Reached.Reached.{by-command, by-front, by-repeat, by-stop, by-scan, by-z, by-c, by-i, by-look}
-use Rattle.step.proofs.Fine.{within-bounds}
+use Rattle.step.proofs.Fine.{within-bounds, command-fine, front-fine, scan-fields, repeat-fine, stop-fine}
 
 -- what the test finds is reached
 pub reach-only : (s : Step) (k : ℕ) → 1 ≤ k → k ≤ 23 → reach s k ≡ true → Reached s k
@@ -39,6 +42,18 @@ reach-all (by-z lo hi) = refl
 reach-all (by-c lo hi) = refl
 reach-all (by-i lo hi) = refl
 reach-all (by-look lo hi) = refl
+
+-- a step that is not refused touches one of the 23 stations
+pub reaches-one : (s : Step) (b : List ℕ) → isFine (stepVerdict s b) ≡ true → (n : ℕ) × (1 ≤ n) × (n ≤ 23) × Reached s n
+reaches-one (Command n a f w) b e = let h = command-fine n a f w e in (n, h .0, h .1, by-command)
+reaches-one (Front n a v) b e = let h = front-fine n a v e in (n, h .0, h .1, by-front)
+reaches-one Z b e = (1, omega arith, omega arith, by-z {k = 1} (omega arith) (omega arith))
+reaches-one C b e = (1, omega arith, omega arith, by-c {k = 1} (omega arith) (omega arith))
+reaches-one (Inhibit v) b e = (1, omega arith, omega arith, by-i {k = 1} (omega arith) (omega arith))
+reaches-one LookAtMe b e = (1, omega arith, omega arith, by-look {k = 1} (omega arith) (omega arith))
+reaches-one (Scan n a f to limit) b e = let h = scan-fields n a f to limit (length b) e in (n, h .0, h .1, by-scan {n = n} {k = n} (omega arith) (h .4))
+reaches-one (Repeat n a f limit tries) b e = let h = repeat-fine n a f limit tries (length b) e in (n, h .0, h .1, by-repeat)
+reaches-one (Stop n a f limit) b e = let h = stop-fine n a f limit (length b) e in (n, h .0, h .1, by-stop)
 
 is-fine : (v : Verdict) → isFine v ≡ true → v ≡ Fine
 is-fine Fine e = refl

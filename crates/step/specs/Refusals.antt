@@ -1,7 +1,8 @@
 -- What is sent back: the number of each row of the table of refusals.
 use Prim.Native.Nat.{ℕ}
 use Rattle.step.specs.declared.Refusal.{Refusal}
-use Rattle.step.specs.declared.Refusal.the-variants.{Garbled, NoSuchStation, NoSuchSubaddress, NoSuchFunction, OverwideWord, CrossedRange, BadLength, ShortBuffer, UnfitCrate, BadModule, OutOfOrder}
+use Rattle.step.specs.declared.Refusal.the-variants.{Garbled, NoSuchStation, NoSuchSubaddress, NoSuchFunction, OverwideWord, CrossedRange, BadLength}
+use Rattle.step.specs.declared.Refusal.the-variants.{ShortBuffer, UnfitCrate, BadModule, OutOfOrder}
 use Rattle.step.specs.declared.Verdict.{Verdict}
 use Rattle.step.specs.declared.Verdict.the-variants.{Fine, Refuse}
 

@@ -22,7 +22,7 @@ const MOST_WORDS: u32 = 512;
 const MOST_TRIES: u32 = 4096;
 
 // x is low to high, both included.
-fn within(low: u32, x: u32, high: u32) -> bool
+pub fn within(low: u32, x: u32, high: u32) -> bool
     ensures { λ r. ⌜ r ≡ within low x high ⌝ }
 {
     low <= x && x <= high
@@ -49,7 +49,7 @@ fn fits_kind(held: Module) -> bool
 }
 
 // What follows, unless the test failed.
-fn unless(ok: bool, q: Refusal, rest: Verdict) -> Verdict
+pub fn unless(ok: bool, q: Refusal, rest: Verdict) -> Verdict
     ensures { λ r. ⌜ r ≡ unless ok q rest ⌝ }
 {
     if ok { rest } else { Verdict::Refuse(q) }

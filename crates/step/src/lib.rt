@@ -1,6 +1,6 @@
-// A step of a run, the reading of a crate line, and whether they may be done: fields from left to right, then the buffer.
+// A step of a run, the reading of a crate line, and whether they may be done: fields from left to right, then the buffer; and the stations that a step reaches.
 // The types come first, then the judging; each row of the table of refusals is a function of `fields`.
-mod fields;
+pub mod fields;
 
 use fields::function_then;
 use fields::inhibit_then;
@@ -18,6 +18,7 @@ use kinds::Module;
 ghost use mathlib.Core.Path.{_≡_};
 ghost use Rattle.step.specs.Modules.{moduleVerdict};
 ghost use Rattle.step.specs.Refusals.{refusalNumber};
+ghost use Rattle.step.specs.Touches.{reach};
 ghost use Rattle.step.specs.Verdict.{commandVerdict, frontVerdict, inhibitVerdict, scanVerdict, repeatVerdict, stopVerdict, stepVerdict};
 
 // What is sent back, in the order of the numbers, from 1 on.
@@ -136,6 +137,29 @@ pub fn judge(step: Step, buffer: &[u32]) -> Verdict
             tries,
         } => judge_repeat(n, a, f, limit, tries, buffer.len()),
         Step::Stop { n, a, f, limit } => judge_stop(n, a, f, limit, buffer.len()),
+    }
+}
+
+// The step reaches station k by its fields.
+pub fn reaches(step: Step, k: u32) -> bool
+    ensures { λ r. ⌜ r ≡ reach step k ⌝ }
+{
+    match step {
+        Step::Command { n, a, f, w } => n == k,
+        Step::Front { n, a, v } => n == k,
+        Step::Z => true,
+        Step::C => true,
+        Step::Inhibit { v } => true,
+        Step::LookAtMe => true,
+        Step::Scan { n, a, f, to, limit } => n <= k && k <= to,
+        Step::Repeat {
+            n,
+            a,
+            f,
+            limit,
+            tries,
+        } => n == k,
+        Step::Stop { n, a, f, limit } => n == k,
     }
 }
 

@@ -59,6 +59,10 @@ pub length-ten : (n : ℕ) → length (decimal n) ≤ 10
 unfolding decimal
 length-ten n = length-up-to 9 n
 
+-- a key and a number
+pub field-short : (key : List ℕ) (n : ℕ) → length (key ++ decimal n) ≤ length key + 10
+field-short key n = simp length-append (omega (arith, length-ten n))
+
 pub length-eight : (n : ℕ) → n < 100000000 → length (decimal n) ≤ 8
 unfolding decimal
 length-eight n h =

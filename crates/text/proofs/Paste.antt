@@ -1,4 +1,4 @@
--- Laws of `pasted` and `Put`: a store is the paste of one byte, and two pastes in a row are one.
+-- Laws of `pasted` and `Put`: a store is the paste of one byte, two pastes in a row are one, and where a field ends.
 use Prim.Native.Nat.{ℕ, suc, _+_, _≤_, _<_}
 use mathlib.Core.Path.{_≡_, sym, _∙_, ap}
 use mathlib.Core.List.{List, [], _∷_, _++_, append-nil, append-assoc}
@@ -8,6 +8,8 @@ use native.Mathlib.Omega.{arith}
 use lib.ListN.{length, take, drop, set, length-append, length-drop, take-append-drop}
 use lib.Seq.{append-snoc, length-take-le, set-split, take-at, take-append-le, take-length, drop-at, drop-drop, take-set-le}
 use Rattle.text.specs.Paste.{pasted, Put}
+use Rattle.text.specs.Text.{decimal}
+use Rattle.text.proofs.Decimal.{field-short}
 
 pub paste-nothing : (o : List ℕ) (at : ℕ) → pasted o at [] ≡ o
 unfolding pasted
@@ -72,6 +74,10 @@ put-then {o} {p} {q} {a} {b} {i} {j} {k} f g h =
       buffer = g .buffer ∙ rw (f .buffer, f .place) (paste-then o i a b h);
       place = g .place ∙ rw (f .place, length-append a b) (omega arith);
     }
+
+-- a key and a number end at most ten places past the key
+pub after-field : {o p : List ℕ} {at next : ℕ} (key : List ℕ) (n : ℕ) → Put o at (key ++ decimal n) p next → next ≤ at + length key + 10
+after-field key n f = omega (arith, f .place, field-short key n)
 
 -- text that was put at the start of a buffer is its first bytes
 pub put-first : {o t p : List ℕ} {next : ℕ} → Put o 0 t p next → take next p ≡ t

@@ -7,18 +7,17 @@ use mathlib.Core.List.{List}
 use Prim.Native.Nat.{ℕ, _+_, _-_, _*_, _≤_, _<_}
 use native.Mathlib.Omega.{arith}
 use native.Mathlib.Decide.{decLt, ℕ-discrete}
-use borrow.Author.Tests.{le-leb, eq-eqb, ne-eqb}
+use borrow.Author.Tests.{eq-eqb, ne-eqb}
 use lib.Dec.{eqb}
 use lib.ListN.{length, length-replicate}
 use Rattle.step.specs.Refusals.{refusalNumber, refusals, verdictNumber}
 use Rattle.step.specs.Touches.{reach}
 use Rattle.step.specs.Verdict.{isFine, stepVerdict, verdictOf}
-use Rattle.step.proofs.Fine.{command-fine, front-fine, scan-fields, repeat-fine, stop-fine}
 use Rattle.step.proofs.Lengths.{judged-by-length}
 use Rattle.step.proofs.Numbers.{numbered, number-injective}
+use Rattle.step.proofs.ReachedLaws.{reach-all, reaches-one}
 use Rattle.step.specs.declared.Refusal.{Refusal}
 use Rattle.step.specs.declared.Step.{Step}
-use Rattle.step.specs.declared.Step.the-variants.{Command, Front, Z, C, Inhibit, LookAtMe, Scan, Repeat, Stop}
 use Rattle.step.specs.declared.Reading.{Reading}
 use Rattle.step.specs.declared.Reading.the-variants.{Good, Bad}
 use Rattle.step.specs.declared.Verdict.{Verdict}
@@ -39,22 +38,6 @@ judged-lent (Good s) b e = judged-by-length s b lent (e ∙ sym lent-long)
 judged-lent (Bad q) b e = refl
 
 -- ---- every step is refused with a number of the table or touches a station
-abbrev Reached : Step → Type 0
-Reached s = (n : ℕ) × (1 ≤ n) × (n ≤ 23) × (reach s n ≡ true)
-
-reaches-one : (s : Step) (b : List ℕ) → isFine (stepVerdict s b) ≡ true → Reached s
-reaches-one (Command n a f w) b e = let h = command-fine n a f w e in (n, h .0, h .1, eq-eqb n n refl)
-reaches-one (Front n a v) b e = let h = front-fine n a v e in (n, h .0, h .1, eq-eqb n n refl)
-reaches-one Z b e = (1, omega arith, omega arith, refl)
-reaches-one C b e = (1, omega arith, omega arith, refl)
-reaches-one (Inhibit v) b e = (1, omega arith, omega arith, refl)
-reaches-one LookAtMe b e = (1, omega arith, omega arith, refl)
-reaches-one (Scan n a f to limit) b e =
-    let h = scan-fields n a f to limit (length b) e in
-    (n, h .0, h .1, rw (le-leb n n (omega arith), le-leb n to (h .4)))
-reaches-one (Repeat n a f limit tries) b e = let h = repeat-fine n a f limit tries (length b) e in (n, h .0, h .1, eq-eqb n n refl)
-reaches-one (Stop n a f limit) b e = let h = stop-fine n a f limit (length b) e in (n, h .0, h .1, eq-eqb n n refl)
-
 pub steps-sorted : Sorted touchesLent refusalOf
 steps-sorted r = go r (verdictOf r lent) refl
   where
@@ -63,8 +46,8 @@ steps-sorted r = go r (verdictOf r lent) refl
     go r (Refuse q) e = let n = numbered q in inl (rw e (n .low, n .high))
     go (Bad q) Fine e = let n = numbered q in inl (n .low, n .high)
     go (Good s) Fine e =
-        let h : Reached s = reaches-one s lent (ap isFine e) in
-        inr (h .0, h .1, h .2, ap (λ (v : Verdict). isFine v && reach s (h .0)) e ∙ h .3)
+        let h = reaches-one s lent (ap isFine e) in
+        inr (h .0, h .1, h .2, ap (λ (v : Verdict). isFine v && reach s (h .0)) e ∙ reach-all (h .3))
 
 -- ---- a step that counts
 abbrev isGood : Reading → Bool
@@ -150,7 +133,9 @@ see-counted s k (Refuse q) l e =
 
 pub see-unreached : (s : Step) (k : ℕ) (t : Bool) → k ≤ 23 → t ≡ reach s k → t ≡ false → false ≡ see k (counted (Good s))
 see-unreached s k t l e f =
-    sym (see-counted s k (verdictOf (Good s) lent) l refl ∙ ap (λ (b : Bool). isFine (verdictOf (Good s) lent) && b) (sym e ∙ f) ∙ never (isFine (verdictOf (Good s) lent)))
+    sym (see-counted s k (verdictOf (Good s) lent) l refl
+    ∙ ap (λ (b : Bool). isFine (verdictOf (Good s) lent) && b) (sym e ∙ f)
+    ∙ never (isFine (verdictOf (Good s) lent)))
   where
     never : (b : Bool) → b && false ≡ false
     never true = refl

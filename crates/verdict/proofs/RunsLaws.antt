@@ -3,13 +3,11 @@
 -- Assumes nothing.
 use mathlib.Core.Path.{_≡_, refl, sym, ap, _∙_}
 use mathlib.Core.Bool.{true, false≢true, _&&_}
-use mathlib.Core.Logic.{_⊎_, inl, inr}
-use mathlib.Core.List.{List, [], _∷_, _++_}
-use Prim.Native.Nat.{ℕ, zero, suc, _*_, _≤_, _<_}
-use native.Mathlib.Nat.{not-suc-le-zero, le-of-suc-le-suc, eq-or-lt-of-le}
+use mathlib.Core.List.{List, _++_}
+use Prim.Native.Nat.{ℕ, _*_, _≤_, _<_}
 use native.Mathlib.Omega.{arith}
-use lib.ListN.{length, getD, drop, length-map, List·getD-append}
-use lib.Seq.{getD-at, ext-getD}
+use lib.ListN.{length, getD, drop, length-map}
+use lib.Seq.{ext-getD}
 use Rattle.regroup.specs.Lists.{outs, arranged, Alike}
 use Rattle.regroup.proofs.Whole.{length-outs, as-long, step-at, getD-map-in}
 use Rattle.step.specs.Verdict.{isFine, verdictOf}
@@ -19,10 +17,10 @@ use Rattle.step.specs.declared.Verdict.{Verdict}
 use Rattle.step.specs.declared.Verdict.the-variants.{Fine, Refuse}
 use Rattle.controller.specs.Steps.{Order, Out, leaves, gives, touches}
 use Rattle.controller.specs.Regrouping.{beyond}
-use Rattle.lists.specs.Words.{readingOf, part, orderAt, ordersOf}
+use Rattle.lists.specs.Words.{readingOf, part, ordersOf}
 use Rattle.lists.specs.Runs.{joined, answerOf, bufferOf, listOf}
 use Rattle.lists.proofs.Parts.{part-long}
-use Rattle.lists.proofs.Orders.{Long, part-of, answers-long, buffers-long, orders-long, orders-length}
+use Rattle.lists.proofs.Orders.{Long, part-of, answers-long, buffers-long, orders-long, orders-length, order-at}
 use Rattle.rehearsal.specs.Pairs.{RearrangedWords, AlikeWords}
 use Rattle.rehearsal.proofs.PairLaws.{Went, list-went}
 use Rattle.verdict.specs.Counted.{lent, counted, touchesLent, count, stepAt, steps, past}
@@ -105,16 +103,6 @@ counted-touches r b n l h = go (verdictOf r lent) refl
     go : (v : Verdict) → verdictOf r lent ≡ v → touchesOf r b n ≡ true
     go Fine e = ap (λ (v : Verdict). isFine v && reachOf r n) (judged-lent r b l) ∙ ap (λ (t : Reading). touchesOf t lent n) (sym (counted-fine r e)) ∙ h
     go (Refuse q) e = absurd (false≢true (ap (λ (t : Reading). touchesOf t lent n) (sym (counted-refused r q e)) ∙ h))
-
-order-at : (ws bs : List ℕ) (k i : ℕ) → i < k → getD (ordersOf ws bs k) i beyond ≡ orderAt ws i bs i
-unfolding ordersOf
-order-at ws bs zero i h = absurd (not-suc-le-zero h)
-order-at ws bs (suc k) i h = go (eq-or-lt-of-le (le-of-suc-le-suc h)) (λ l. order-at ws bs k i l)
-  where
-    go : (i ≡ k) ⊎ (i < k) → (i < k → getD (ordersOf ws bs k) i beyond ≡ orderAt ws i bs i)
-        → getD (ordersOf ws bs k ++ (orderAt ws k bs k ∷ [])) i beyond ≡ orderAt ws i bs i
-    go (inl e) ih = getD-at (ordersOf ws bs k) (orderAt ws k bs k) [] beyond i (orders-length ws bs k ∙ sym e) ∙ ap (λ (j : ℕ). orderAt ws j bs j) (sym e)
-    go (inr l) ih = List·getD-append (ordersOf ws bs k) (orderAt ws k bs k ∷ []) beyond i (omega (arith, orders-length ws bs k)) ∙ ih l
 
 module _ (us ws b1 b2 p : List ℕ) (l2 : 512 * count ws ≤ length b2) (raw : RearrangedWords us b1 (count us) ws b2 (count ws) p) where
   long-us : length (ordersOf us b1 (count us)) ≡ count us

@@ -5,7 +5,6 @@ ghost use mathlib.Core.Path.{_≡_};
 ghost use mathlib.Core.List.{[], _∷_};
 ghost use Prim.Native.Nat.{_≤_, _<_};
 ghost use lib.ListN.{length};
-ghost use Rattle.step.specs.Touches.{reach};
 ghost use Rattle.step.specs.declared.Reading.{Reading};
 ghost use Rattle.verdict.specs.Watches.{only, Watch};
 ghost use Rattle.verdict.specs.Counted.{counted, see, count, stepAt, isRefused, refusedIn};
@@ -33,29 +32,6 @@ pub enum Comparison {
     },
 }
 
-// The step reaches station k by its fields.
-fn reaches(step: Step, k: u32) -> bool
-    ensures { λ r. ⌜ r ≡ reach step k ⌝ }
-{
-    match step {
-        Step::Command { n, a, f, w } => n == k,
-        Step::Front { n, a, v } => n == k,
-        Step::Z => true,
-        Step::C => true,
-        Step::Inhibit { v } => true,
-        Step::LookAtMe => true,
-        Step::Scan { n, a, f, to, limit } => n <= k && k <= to,
-        Step::Repeat {
-            n,
-            a,
-            f,
-            limit,
-            tries,
-        } => n == k,
-        Step::Stop { n, a, f, limit } => n == k,
-    }
-}
-
 // Watch k sees a step that may be done.
 fn sees_good(step: Step, k: u32) -> bool
     requires { ⌜ counted (Reading.Good step) ≡ Reading.Good step ⌝ }
@@ -64,7 +40,7 @@ fn sees_good(step: Step, k: u32) -> bool
     if k > LAST_STATION {
         return false;
     }
-    reaches(step, k)
+    step::reaches(step, k)
 }
 
 // Watch k sees the step.
@@ -109,7 +85,7 @@ fn touches(step: Step, k: u32, lent: &[u32]) -> bool
     requires { ⌜ (length (now lent) ≡ 512) × (k ≤ 23) ⌝ }
     ensures { λ r. ⌜ r ≡ see k (counted (Reading.Good step)) ⌝ }
 {
-    let reached = reaches(step, k);
+    let reached = step::reaches(step, k);
     if !reached {
         return false;
     }

@@ -1,5 +1,5 @@
 -- Laws of bits, at every width: what the machine's `x & !w` and `1 << a` are in the terms of specs/Word.antt, what each definition there
--- that speaks of bits does to each bit, and the bounds of its value.
+-- that speaks of bits does to each bit, and the bounds of its value. (`bitsOf` has its own file.)
 -- Assumes nothing.
 use mathlib.Core.Path.{_≡_, refl, sym, ap, ap₂, _∙_}
 use mathlib.Core.Logic.{_≢_}

@@ -1,6 +1,7 @@
--- The arithmetic of 24-bit words, and words by their bits, bit 0 the lowest. The laws bit by bit are in proofs/BitLaws.antt.
-use mathlib.Core.Bool.{Bool}
-use Prim.Native.Nat.{ℕ, _+_, _-_, _/_, _%_, _^_}
+-- The arithmetic of 24-bit words, and words by their bits, bit 0 the lowest. The laws bit by bit are in proofs/BitLaws.antt, those of
+-- `bitsOf` in proofs/BitsOf.antt.
+use mathlib.Core.Bool.{Bool, cond}
+use Prim.Native.Nat.{ℕ, zero, suc, _+_, _-_, _*_, _/_, _%_, _^_}
 use lib.Bits.{bitAnd, bitOr}
 use lib.Dec.{leb}
 
@@ -31,3 +32,12 @@ bitOf a x = x / 2 ^ a % 2
 -- the bits of w below s
 abbrev pub lowBits : ℕ → ℕ → ℕ
 lowBits s w = w % 2 ^ s
+
+-- a test as a bit: 1 where it holds
+abbrev pub asBit : Bool → ℕ
+asBit s = cond s 1 0
+
+-- the word whose bit i, for each i below k, is 1 where t holds of i; all other bits are clear
+unfoldable pub bitsOf : (ℕ → Bool) → ℕ → ℕ
+bitsOf t zero = 0
+bitsOf t (suc k) = asBit (t k) * 2 ^ k + bitsOf t k

@@ -14,7 +14,7 @@ same-length : tie.Need-same-length
 same-length c = search needs
 
 returns : tie.Need-returns
-returns c = crate-told _ _ _ _ _ _ (c .before .before .before .crate-line .ensures) (c .verdict-number .ensures)
+returns c = crate-told _ _ _ _ _ _ (c .before .before .before .crate-line .ensures .0) (c .verdict-number .ensures)
 
 pub pagontxu-crate-line-spec : {M : Type 1} → statement M
 pagontxu-crate-line-spec =

@@ -20,7 +20,7 @@ same-length-3 : tie.Need-same-length-3
 same-length-3 c = search needs
 
 returns : tie.Need-returns
-returns c = list-told _ _ _ _ _ _ _ _ _ _ (c .before .before .before .before .before .before .before .run-list .ensures)
+returns c = list-told _ _ _ _ _ _ _ _ _ _ (c .before .before .before .before .before .before .before .run-list .ensures .0)
     (c .verdict-number .ensures)
 
 pub pagontxu-list-spec : {M : Type 1} → statement M

@@ -34,7 +34,7 @@ same-length-4 c = search needs
 returns-2 : tie.Need-returns-2
 returns-2 c = line-told _ _ _ _ _ _ _ _ _
     (c .before .before .before .before .before .before .before .before .before .before .before .if1 .left)
-    (c .before .before .before .before .before .before .before .run-line .ensures) (c .before .before .tell .ensures .0)
+    (c .before .before .before .before .before .before .before .run-line .ensures .0) (c .before .before .tell .ensures .0)
     (c .before .before .tell .ensures .1)
 
 pub pagontxu-run-line-spec : {M : Type 1} → statement M

@@ -39,7 +39,7 @@ returns c = words-read _ _ _ _
     (c .before .before .before .before .before .before .before .before .before .before .before .before .before .before .before .pre)
     (c .before .before .before .before .before .before .before .before .before .before .read-step .ensures) _ _
     (c .before .before .before .before .before .before .before .before .reading .given .1)
-    (c .before .before .before .before .run-step .ensures)
+    (c .before .before .before .before .run-step .ensures .0)
 
 same-length-3 : tie.Need-same-length-3
 same-length-3 c = search needs

@@ -1,6 +1,7 @@
 -- `act` meets its contract: a step that is not refused has the fields that each call asks for (`..-good`), and each arm comes to the definition's (`..-acts`).
 use borrow.Author.Needs.{needs}
-use Rattle.controller.proofs.Arms.{command-good, front-good, inhibit-good, scan-good, repeat-good, stop-good, command-acts, front-acts, z-acts, c-acts, inhibit-acts, lam-acts, scan-acts, repeat-acts, stop-acts}
+use Rattle.controller.proofs.Arms.{command-good, front-good, inhibit-good, scan-good, repeat-good, stop-good, command-acts}
+use Rattle.controller.proofs.Arms.{front-acts, z-acts, c-acts, inhibit-acts, lam-acts, scan-acts, repeat-acts, stop-acts}
 use Rattle.controller.proofs.act.Statement.{statement}
 use Rattle.controller.proofs.act.Tie as tie
 
@@ -123,9 +124,9 @@ same-length-8 : tie.Need-same-length-8
 same-length-8 c = search needs
 
 returns-7 : tie.Need-returns-7
-returns-7 c = scan-acts _ _ _ _ _ _ _ _ _ _ _ (c .before .before .before .before .before .before .before .before .step4 .given .1)
-    (c .before .before .before .before .scan .ensures .0) (c .before .before .before .before .scan .ensures .1 .0)
-    (c .before .before .before .before .scan .ensures .1 .1)
+returns-7 c = let scan = (c .before .before .before .before .scan) in
+    scan-acts _ _ _ _ _ _ _ _ _ _ _ (c .before .before .before .before .before .before .before .before .step4 .given .1) (scan .ensures .0) (scan .ensures .1 .0)
+    (scan .ensures .1 .1)
 
 same-length-9 : tie.Need-same-length-9
 same-length-9 c = search needs
@@ -134,9 +135,9 @@ same-length-10 : tie.Need-same-length-10
 same-length-10 c = search needs
 
 returns-8 : tie.Need-returns-8
-returns-8 c = repeat-acts _ _ _ _ _ _ _ _ _ _ _ (c .before .before .before .before .before .before .before .before .step5 .given .1)
-    (c .before .before .before .before .repeat .ensures .0) (c .before .before .before .before .repeat .ensures .1 .0)
-    (c .before .before .before .before .repeat .ensures .1 .1)
+returns-8 c = let repeat = (c .before .before .before .before .repeat) in
+    repeat-acts _ _ _ _ _ _ _ _ _ _ _ (c .before .before .before .before .before .before .before .before .step5 .given .1) (repeat .ensures .0) (repeat .ensures .1 .0)
+    (repeat .ensures .1 .1)
 
 same-length-11 : tie.Need-same-length-11
 same-length-11 c = search needs
@@ -145,9 +146,9 @@ same-length-12 : tie.Need-same-length-12
 same-length-12 c = search needs
 
 returns-9 : tie.Need-returns-9
-returns-9 c = stop-acts _ _ _ _ _ _ _ _ _ _ (c .before .before .before .before .before .before .before .before .step6 .given .1)
-    (c .before .before .before .before .stop .ensures .0) (c .before .before .before .before .stop .ensures .1 .0)
-    (c .before .before .before .before .stop .ensures .1 .1)
+returns-9 c = let stop = (c .before .before .before .before .stop) in
+    stop-acts _ _ _ _ _ _ _ _ _ _ (c .before .before .before .before .before .before .before .before .step6 .given .1) (stop .ensures .0) (stop .ensures .1 .0)
+    (stop .ensures .1 .1)
 
 pub act-spec : {M : Type 1} → statement M
 act-spec =

@@ -38,7 +38,7 @@ abbrev μ-loop3 : tie.MeasureT-loop3
 μ-loop3 text from i₀ i = length text - i
 
 loop-holds : tie.Need-loop-holds Inv-loop2 μ-loop2 Inv-loop μ-loop Inv-loop3 μ-loop3
-loop-holds c = (omega arith, omega arith, clear-none ((c .args .text) .now) (c .args .from))
+loop-holds c = (omega arith, omega arith, clear-none (c .args .text .now) (c .args .from))
 
 sub-loop : tie.Need-sub-loop Inv-loop2 μ-loop2 Inv-loop μ-loop Inv-loop3 μ-loop3
 sub-loop c = omega arith
@@ -66,7 +66,8 @@ loop2-less : tie.Need-loop2-less Inv-loop2 μ-loop2 Inv-loop μ-loop Inv-loop3 �
 loop2-less c = omega arith
 
 loop2-again : tie.Need-loop2-again Inv-loop2 μ-loop2 Inv-loop μ-loop Inv-loop3 μ-loop3
-loop2-again c = (omega arith, clear-more ((c .before .before .before .before .before .before .args .text) .now) (c .before .before .before .before .before .before .args .from) _ _ (c .before .before .before .loop2 .inv .1) (c .if1 .left) (omega arith))
+loop2-again c = let entry = (c .before .before .before .before .before .before .args) in
+    (omega arith, clear-more (entry .text .now) (entry .from) _ _ (c .before .before .before .loop2 .inv .1) (c .if1 .left) (omega arith))
 
 add-i : tie.Need-add-i Inv-loop2 μ-loop2 Inv-loop μ-loop Inv-loop3 μ-loop3
 add-i c = omega arith
@@ -94,7 +95,8 @@ loop3-less : tie.Need-loop3-less Inv-loop2 μ-loop2 Inv-loop μ-loop Inv-loop3 �
 loop3-less c = omega arith
 
 loop3-again : tie.Need-loop3-again Inv-loop2 μ-loop2 Inv-loop μ-loop Inv-loop3 μ-loop3
-loop3-again c = (omega arith, omega arith, clear-more ((c .before .before .before .before .before .before .args .text) .now) (c .before .before .before .before .before .before .args .from) _ _ (c .before .before .before .loop3 .inv .2) (c .if2 .left) (omega arith))
+loop3-again c = let entry = (c .before .before .before .before .before .before .args) in
+    (omega arith, omega arith, clear-more (entry .text .now) (entry .from) _ _ (c .before .before .before .loop3 .inv .2) (c .if2 .left) (omega arith))
 
 returns-3 : tie.Need-returns-3 Inv-loop2 μ-loop2 Inv-loop μ-loop Inv-loop3 μ-loop3
 returns-3 c = record { from = omega arith; within = omega arith; before = (c .before .loop3 .inv .2); there = λ h. absurd (omega arith) }

@@ -41,10 +41,12 @@ same-length : tie.Need-same-length
 same-length c = search needs
 
 returns : tie.Need-returns
-returns c = (
-  line-stored (c .before .before .before .before .before .before .before .before .before .before .args .line .now) (c .before .before .before .before .before .before .before .before .before .before .args .words .now) (c .before .before .before .before .before .before .before .before .before .before .args .s .fill) (c .before .before .before .before .before .before .before .before .before .before .args .s .number) _ _ (omega arith) (c .before .before .before .before .before .before .read-line .ensures .0) (c .before .before .before .write-reading .ensures),
-  record { filled = omega arith; lined = omega arith; within = omega arith; room = omega arith },
-)
+returns c = let entry = (c .before .before .before .before .before .before .before .before .before .before .args) in
+    let read = (c .before .before .before .before .before .before .read-line) in (
+      line-stored (entry .line .now) (entry .words .now) (entry .s .fill) (entry .s .number) _ _ (omega arith) (read .ensures .0)
+          (c .before .before .before .write-reading .ensures),
+      record { filled = omega arith; lined = omega arith; within = omega arith; room = omega arith },
+    )
 
 pub end-line-spec : {M : Type 1} → statement M
 end-line-spec =

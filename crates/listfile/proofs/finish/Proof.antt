@@ -32,10 +32,11 @@ same-length c = search needs
 
 returns-3 : tie.Need-returns-3
 returns-3 c = let a = (c .before .before .before .before .before .before .before .before .before .before .args) in
-    let some = (c .before .before .before .before .if2 .left) in
+    let some = c .before .before .before .before .if2 .left in
     let n : 0 < length (take (a .s .fill) (a .line .now)) = rw (length-take-le (a .s .fill) (a .line .now) (omega arith)) (omega arith) in (
-      (c .before .before .end-line .ensures .0) ∙ sym (closed-end storing (stateOf (a .s) (a .line .now) (a .words .now)) (taken (stateOf (a .s) (a .line .now) (a .words .now)) (omega arith)) n),
-      (c .before .before .end-line .ensures .1),
+      (c .before .before .end-line .ensures .0)
+          ∙ sym (closed-end storing (stateOf (a .s) (a .line .now) (a .words .now)) (taken (stateOf (a .s) (a .line .now) (a .words .now)) (omega arith)) n),
+      c .before .before .end-line .ensures .1,
     )
 
 pub finish-spec : {M : Type 1} → statement M

@@ -35,7 +35,8 @@ same-length-2 c = omega arith
 returns : tie.Need-returns Inv-loop μ-loop
 returns c = let a = (c .before .before .before .before .before .before .before .args) in
     let l = (c .before .before .before .loop) in (
-      fed-over storing (stateOf (a .s) (a .line .now) (a .words .now)) (a .text .now) (stateOf (l .r) (l .line) (l .words)) (l .i) (l .inv .5) (past (stateOf (l .r) (l .line) (l .words)) (c .if1 .taken)),
+      fed-over storing (stateOf (a .s) (a .line .now) (a .words .now)) (a .text .now) (stateOf (l .r) (l .line) (l .words)) (l .i) (l .inv .5)
+          (past (stateOf (l .r) (l .line) (l .words)) (c .if1 .taken)),
       record { filled = omega arith; lined = omega arith; within = omega arith; room = omega arith },
     )
 
@@ -52,7 +53,10 @@ part-take-span-end : tie.Need-part-take-span-end Inv-loop μ-loop
 part-take-span-end c = omega arith
 
 take-span-requires : tie.Need-take-span-requires Inv-loop μ-loop
-take-span-requires c κs = (omega arith, no-lf (c .before .before .before .before .before .before .before .before .before .before .args .text .now) (c .before .before .before .before .before .before .loop .i) (c .before .before .find-lf .result) (c .before .before .find-lf .ensures))
+take-span-requires c κs = let entry = (c .before .before .before .before .before .before .before .before .before .before .args) in (
+  omega arith,
+  no-lf (entry .text .now) (c .before .before .before .before .before .before .loop .i) (c .before .before .find-lf .result) (c .before .before .find-lf .ensures),
+)
 
 same-length-3 : tie.Need-same-length-3 Inv-loop μ-loop
 same-length-3 c = omega arith
@@ -64,9 +68,11 @@ returns-2 : tie.Need-returns-2 Inv-loop μ-loop
 returns-2 c = let a = (c .before .before .before .before .before .before .before .before .before .before .before .before .before .before .args) in
     let l = (c .before .before .before .before .before .before .before .before .before .before .loop) in
     let e = (c .before .before .before .before .before .before .find-lf .result) in
+    let span = (c .before .before .before .take-span) in
     let s₀ = stateOf (a .s) (a .line .now) (a .words .now) in
-    let y = stateOf (c .before .before .before .take-span .result) (c .before .before .before .take-span .last .1 .1 .0) (l .words) in (
-      fed-all storing s₀ (a .text .now) y e (fed-span storing s₀ (a .text .now) (stateOf (l .r) (l .line) (l .words)) (l .i) (l .inv .5) e y (omega arith) ((c .before .before .before .take-span .ensures .0) (l .words))) (omega arith),
+    let y = stateOf (span .result) (span .last .1 .1 .0) (l .words) in (
+      fed-all storing s₀ (a .text .now) y e (fed-span storing s₀ (a .text .now) (stateOf (l .r) (l .line) (l .words)) (l .i) (l .inv .5) e y (omega arith)
+          ((span .ensures .0) (l .words))) (omega arith),
       record { filled = omega arith; lined = omega arith; within = omega arith; room = omega arith },
     )
 
@@ -74,24 +80,30 @@ end-line-requires : tie.Need-end-line-requires Inv-loop μ-loop
 end-line-requires c κs = (record { filled = omega arith; lined = omega arith; within = omega arith; room = omega arith }, omega arith)
 
 add-i : tie.Need-add-i Inv-loop μ-loop
-add-i c = omega (arith, (c .before .before .before .before .before .before .before .before .before .before .before .before .before .before .before .before .before .before .before .good .0 .0))
+add-i c = let far = c .before .before .before .before .before .before .before .before .before .before .before .before .before .before .before .before .before .before in
+    let good = (far .before .good) in
+    omega (arith, good .0 .0)
 
 loop-less : tie.Need-loop-less Inv-loop μ-loop
 loop-less c = omega arith
 
 loop-again : tie.Need-loop-again Inv-loop μ-loop
-loop-again c = let a = (c .before .before .before .before .before .before .before .before .before .before .before .before .before .before .before .before .before .before .before .args) in
+loop-again c =
+    let a = (c .before .before .before .before .before .before .before .before .before .before .before .before .before .before .before .before .before .before .before .args) in
     let l = (c .before .before .before .before .before .before .before .before .before .before .before .before .before .before .before .loop) in
-    let e = (c .before .before .before .before .before .before .before .before .before .before .before .find-lf .result) in
+    let found = (c .before .before .before .before .before .before .before .before .before .before .before .find-lf) in
+    let span = (c .before .before .before .before .before .before .before .before .take-span) in
+    let e = found .result in
     let s₀ = stateOf (a .s) (a .line .now) (a .words .now) in
-    let y = stateOf (c .before .before .before .before .before .before .before .before .take-span .result) (c .before .before .before .before .before .before .before .before .take-span .last .1 .1 .0) (l .words) in
-    let more = fed-span storing s₀ (a .text .now) (stateOf (l .r) (l .line) (l .words)) (l .i) (l .inv .5) e y (omega arith) ((c .before .before .before .before .before .before .before .before .take-span .ensures .0) (l .words)) in (
+    let y = stateOf (span .result) (span .last .1 .1 .0) (l .words) in
+    let more = fed-span storing s₀ (a .text .now) (stateOf (l .r) (l .line) (l .words)) (l .i) (l .inv .5) e y (omega arith) ((span .ensures .0) (l .words)) in (
       omega arith,
       omega arith,
       omega arith,
       omega arith,
       omega arith,
-      (c .before .before .end-line .ensures .0) ∙ fed-end storing s₀ (a .text .now) y e more (omega arith) ((c .before .before .before .before .before .before .before .before .before .before .before .find-lf .ensures .there) (omega arith)) (taken y (omega arith)),
+      (c .before .before .end-line .ensures .0)
+          ∙ fed-end storing s₀ (a .text .now) y e more (omega arith) ((found .ensures .there) (omega arith)) (taken y (omega arith)),
     )
 
 same-length-5 : tie.Need-same-length-5 Inv-loop μ-loop

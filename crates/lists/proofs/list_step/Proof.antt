@@ -53,17 +53,12 @@ same-length-2 : tie.Need-same-length-2
 same-length-2 c = search needs
 
 returns : tie.Need-returns
-returns c = step-lent
-    (c .before .before .before .before .before .before .before .before .before .before .before .before .args .memory .now)
-    (c .before .before .before .before .before .before .before .before .before .before .before .before .args .steps .now)
-    (c .before .before .before .before .before .before .before .before .before .before .before .before .args .k)
-    (c .before .before .before .before .before .before .before .before .before .before .before .before .args .buffers .now)
-    (c .before .before .before .before .before .before .before .before .before .before .before .before .args .q)
+returns c = let entry = (c .before .before .before .before .before .before .before .before .before .before .before .before .args) in
+    let done = (c .before .before .before .before .perform) in
+    step-lent (entry .memory .now) (entry .steps .now) (entry .k) (entry .buffers .now) (entry .q)
     (c .before .before .before .before .before .before .before .before .before .before .before .before .pre .0)
-    (c .before .before .before .before .before .before .before .read-step .result) (c .before .before .before .before .perform .last .0)
-    (c .before .before .before .before .perform .result) (c .before .before .before .before .perform .last .1 .1 .0)
-    (c .before .before .before .before .before .before .before .read-step .ensures)
-    (c .before .before .before .before .perform .ensures .0) (c .before .before .before .before .perform .ensures .1)
+    (c .before .before .before .before .before .before .before .read-step .result) (done .last .0) (done .result) (done .last .1 .1 .0)
+    (c .before .before .before .before .before .before .before .read-step .ensures) (done .ensures .0) (done .ensures .1)
 
 pub list-step-spec : {M : Type 1} → statement M
 list-step-spec =

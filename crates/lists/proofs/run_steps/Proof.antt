@@ -13,30 +13,15 @@ abbrev μ-loop : tie.MeasureT-loop
 μ-loop memory₀ count steps answers₀ buffers₀ k₀ memory answers buffers k = count - k
 
 loop-holds : tie.Need-loop-holds Inv-loop μ-loop
-loop-holds c = (
-  omega arith,
-  running-start (c .before .before .before .before .args .memory .now) (c .before .before .before .before .args .steps .now)
-      (c .before .before .before .before .args .answers .now) (c .before .before .before .before .args .buffers .now)
-      (c .before .before .before .before .pre .0),
-)
+loop-holds c = let entry = (c .before .before .before .before .args) in
+    (omega arith, running-start (entry .memory .now) (entry .steps .now) (entry .answers .now) (entry .buffers .now) (c .before .before .before .before .pre .0))
 
 list-step-requires : tie.Need-list-step-requires Inv-loop μ-loop
-list-step-requires c κs = (
-  (c .before .before .before .loop .inv .1 .fit),
+list-step-requires c κs = let loop = (c .before .before .before .loop) in (
+  loop .inv .1 .fit,
   (
-    omega (
-      arith,
-      (c .before .before .loop-test),
-      (c .before .before .before .loop .inv),
-      (c .before .before .before .before .before .before .before .before .pre .1),
-    ),
-    omega (
-      arith,
-      (c .before .before .loop-test),
-      (c .before .before .before .loop .inv),
-      (c .before .before .before .before .before .before .before .before .pre .1),
-      (c .before .before .before .loop .inv .1 .blong),
-    ),
+    omega (arith, c .before .before .loop-test, loop .inv, c .before .before .before .before .before .before .before .before .pre .1),
+    omega (arith, c .before .before .loop-test, loop .inv, c .before .before .before .before .before .before .before .before .pre .1, loop .inv .1 .blong),
   ),
 )
 
@@ -101,20 +86,12 @@ part-write-answer-end c = omega (
 )
 
 write-answer-requires : tie.Need-write-answer-requires Inv-loop μ-loop
-write-answer-requires c κs = answer-place
-    (c .before .before .before .before .before .before .before .before .before .before .before .before .before .before .args .memory .now)
-    (c .before .before .before .before .before .before .before .before .before .before .before .before .before .before .args .steps .now)
-    (c .before .before .before .before .before .before .before .before .before .before .before .before .before .before .args .answers .now)
-    (c .before .before .before .before .before .before .before .before .before .before .before .before .before .before .args .buffers .now)
-    (c .before .before .before .before .before .before .before .before .before .loop .memory)
-    (c .before .before .before .before .before .before .before .before .before .loop .answers)
-    (c .before .before .before .before .before .before .before .before .before .loop .buffers)
-    (c .before .before .before .before .before .before .before .before .before .before .before .before .before .before .args .count)
-    (c .before .before .before .before .before .before .before .before .before .loop .k)
-    (c .before .before .before .before .before .before .before .before .before .before .before .before .before .before .pre .1 .1)
+write-answer-requires c κs = let entry = (c .before .before .before .before .before .before .before .before .before .before .before .before .before .before .args) in
+    let loop = (c .before .before .before .before .before .before .before .before .before .loop) in
+    answer-place (entry .memory .now) (entry .steps .now) (entry .answers .now) (entry .buffers .now) (loop .memory) (loop .answers) (loop .buffers) (entry .count)
+    (loop .k) (c .before .before .before .before .before .before .before .before .before .before .before .before .before .before .pre .1 .1)
     (c .before .before .before .before .before .before .before .before .before .before .before .before .before .before .pre .1 .2)
-    (omega (arith, (c .before .before .before .before .before .before .before .before .loop-test)))
-    (c .before .before .before .before .before .before .before .before .before .loop .inv .1)
+    (omega (arith, c .before .before .before .before .before .before .before .before .loop-test)) (loop .inv .1)
 
 add-k : tie.Need-add-k Inv-loop μ-loop
 add-k c = omega (
@@ -133,16 +110,19 @@ loop-less c = omega (
 )
 
 loop-again : tie.Need-loop-again Inv-loop μ-loop
-loop-again c = (
-  omega (arith, (c .before .before .before .before .before .before .before .before .before .before .before .loop-test)),
-  running-more (c .before .before .before .before .before .before .before .before .before .before .before .before .before .before .before .before .before .args .memory .now) (c .before .before .before .before .before .before .before .before .before .before .before .before .before .before .before .before .before .args .steps .now) (c .before .before .before .before .before .before .before .before .before .before .before .before .before .before .before .before .before .args .answers .now) (c .before .before .before .before .before .before .before .before .before .before .before .before .before .before .before .before .before .args .buffers .now) (c .before .before .before .before .before .before .before .before .before .before .before .before .loop .memory) (c .before .before .before .before .before .before .before .before .before .before .before .before .loop .answers) (c .before .before .before .before .before .before .before .before .before .before .before .before .loop .buffers) (c .before .before .before .before .before .before .before .before .before .before .before .before .before .before .before .before .before .args .count) (c .before .before .before .before .before .before .before .before .before .before .before .before .loop .k) (c .before .before .before .before .before .before .before .before .before .before .before .before .before .before .before .before .before .pre .1 .1) (c .before .before .before .before .before .before .before .before .before .before .before .before .before .before .before .before .before .pre .1 .2) (omega (arith, (c .before .before .before .before .before .before .before .before .before .before .before .loop-test))) (c .before .before .before .before .before .before .before .before .before .before .before .before .loop .inv .1) (c .before .before .before .before .before .before .before .before .list-step .last .0) (c .before .before .before .before .before .before .before .before .list-step .result) (c .before .before .before .before .before .before .before .before .list-step .last .1 .1 .1 .0) (c .before .before .write-answer .last .0)
-      (c .before .before .before .before .before .before .before .before .list-step .ensures .0)
-      (c .before .before .before .before .before .before .before .before .list-step .ensures .1 .0)
-      (c .before .before .before .before .before .before .before .before .list-step .ensures .1 .1 .0)
-      (c .before .before .before .before .before .before .before .before .list-step .ensures .1 .1 .1)
-      (c .before .before .before .before .before .before .before .before .list-step .kept .1 .1 .1 .0)
-      (c .before .before .write-answer .ensures) (c .before .before .write-answer .kept .0),
-)
+loop-again c =
+    let entry = (c .before .before .before .before .before .before .before .before .before .before .before .before .before .before .before .before .before .args) in
+    let pre = (c .before .before .before .before .before .before .before .before .before .before .before .before .before .before .before .before .before .pre) in
+    let loop = (c .before .before .before .before .before .before .before .before .before .before .before .before .loop) in
+    let loop-test = (c .before .before .before .before .before .before .before .before .before .before .before .loop-test) in
+    let done = (c .before .before .before .before .before .before .before .before .list-step) in
+    let told = (c .before .before .write-answer) in (
+      omega (arith, loop-test),
+      running-more (entry .memory .now) (entry .steps .now) (entry .answers .now) (entry .buffers .now) (loop .memory) (loop .answers) (loop .buffers) (entry .count)
+          (loop .k) (pre .1 .1) (pre .1 .2) (omega (arith, loop-test)) (loop .inv .1) (done .last .0) (done .result) (done .last .1 .1 .1 .0) (told .last .0)
+          (done .ensures .0) (done .ensures .1 .0) (done .ensures .1 .1 .0) (done .ensures .1 .1 .1) (done .kept .1 .1 .1 .0) (told .ensures)
+          (told .kept .0),
+    )
 
 same-length : tie.Need-same-length Inv-loop μ-loop
 same-length c = (c .before .loop .inv .1 .fit .size) ∙ sym (c .before .before .before .before .before .before .pre .0 .size)
@@ -154,12 +134,10 @@ same-length-3 : tie.Need-same-length-3 Inv-loop μ-loop
 same-length-3 c = (c .before .loop .inv .1 .blong)
 
 returns : tie.Need-returns Inv-loop μ-loop
-returns c = running-done (c .before .before .before .before .before .before .args .memory .now)
-    (c .before .before .before .before .before .before .args .steps .now)
-    (c .before .before .before .before .before .before .args .answers .now)
-    (c .before .before .before .before .before .before .args .buffers .now) (c .before .loop .memory) (c .before .loop .answers)
-    (c .before .loop .buffers) (c .before .before .before .before .before .before .args .count) (c .before .loop .k)
-    (omega (arith, (c .before .loop .inv .0), (c .loop-test))) (c .before .loop .inv .1)
+returns c = let entry = (c .before .before .before .before .before .before .args) in
+    let loop = (c .before .loop) in
+    running-done (entry .memory .now) (entry .steps .now) (entry .answers .now) (entry .buffers .now) (loop .memory) (loop .answers) (loop .buffers) (entry .count)
+    (loop .k) (omega (arith, loop .inv .0, c .loop-test)) (loop .inv .1)
 
 pub run-steps-spec : {M : Type 1} → statement M
 run-steps-spec =

@@ -8,7 +8,12 @@ use Rattle.pairs.proofs.compare_all.Statement.{statement}
 use Rattle.pairs.proofs.compare_all.Tie as tie
 
 abbrev Inv-loop : tie.InvT-loop
-Inv-loop text₀ line₀ first₀ second₀ out₀ k₀ text line first second out k = (length text ≡ length text₀) × (length line ≡ length line₀) × (length first ≡ length first₀) × (length second ≡ length second₀) × (length out ≡ length out₀)
+Inv-loop text₀ line₀ first₀ second₀ out₀ k₀ text line first second out k =
+    (length text ≡ length text₀)
+    × (length line ≡ length line₀)
+    × (length first ≡ length first₀)
+    × (length second ≡ length second₀)
+    × (length out ≡ length out₀)
 
 abbrev μ-loop : tie.MeasureT-loop
 μ-loop text₀ line₀ first₀ second₀ out₀ k₀ text line first second out k = 26 - k
@@ -17,7 +22,9 @@ loop-holds : tie.Need-loop-holds Inv-loop μ-loop
 loop-holds c = (refl, refl, refl, refl, refl)
 
 compare-pair-requires : tie.Need-compare-pair-requires Inv-loop μ-loop
-compare-pair-requires c κs = (omega (arith, (c .before .before .before .before .before .before .loop .inv .1), (c .before .before .before .before .before .before .before .before .before .before .before .before .pre .0)), omega (arith, (c .before .before .before .before .before .before .loop .inv .2), (c .before .before .before .before .before .before .before .before .before .before .before .before .pre .1)), omega (arith, (c .before .before .before .before .before .before .loop .inv .3), (c .before .before .before .before .before .before .before .before .before .before .before .before .pre .2)), omega (arith, (c .before .before .before .before .before .before .loop .inv .4), (c .before .before .before .before .before .before .before .before .before .before .before .before .pre .3)))
+compare-pair-requires c κs = let pre = (c .before .before .before .before .before .before .before .before .before .before .before .before .pre) in
+    let loop = (c .before .before .before .before .before .before .loop) in
+    (omega (arith, loop .inv .1, pre .0), omega (arith, loop .inv .2, pre .1), omega (arith, loop .inv .3, pre .2), omega (arith, loop .inv .4, pre .3))
 
 add-k : tie.Need-add-k Inv-loop μ-loop
 add-k c = omega arith
@@ -26,7 +33,15 @@ loop-less : tie.Need-loop-less Inv-loop μ-loop
 loop-less c = omega arith
 
 loop-again : tie.Need-loop-again Inv-loop μ-loop
-loop-again c = (omega (arith, (c .before .before .before .before .before .before .before .before .before .before .before .before .before .before .before .before .before .loop .inv .0), (c .before .before .before .before .before .before .before .before .before .before .compare-pair .kept)), omega (arith, (c .before .before .before .before .before .before .before .before .before .before .before .before .before .before .before .before .before .loop .inv .1), (c .before .before .before .before .before .before .before .before .before .before .compare-pair .kept)), omega (arith, (c .before .before .before .before .before .before .before .before .before .before .before .before .before .before .before .before .before .loop .inv .2), (c .before .before .before .before .before .before .before .before .before .before .compare-pair .kept)), omega (arith, (c .before .before .before .before .before .before .before .before .before .before .before .before .before .before .before .before .before .loop .inv .3), (c .before .before .before .before .before .before .before .before .before .before .compare-pair .kept)), omega (arith, (c .before .before .before .before .before .before .before .before .before .before .before .before .before .before .before .before .before .loop .inv .4), (c .before .before .before .before .before .before .before .before .before .before .compare-pair .kept)))
+loop-again c =
+    let loop = (c .before .before .before .before .before .before .before .before .before .before .before .before .before .before .before .before .before .loop) in
+    let compared = (c .before .before .before .before .before .before .before .before .before .before .compare-pair) in (
+      omega (arith, loop .inv .0, compared .kept),
+      omega (arith, loop .inv .1, compared .kept),
+      omega (arith, loop .inv .2, compared .kept),
+      omega (arith, loop .inv .3, compared .kept),
+      omega (arith, loop .inv .4, compared .kept),
+    )
 
 same-length : tie.Need-same-length Inv-loop μ-loop
 same-length c = omega (arith, (c .before .loop .inv .0))

@@ -28,7 +28,12 @@ slice-aggregate-compare-all-5 : tie.Need-slice-aggregate-compare-all-5
 slice-aggregate-compare-all-5 c = search needs
 
 compare-all-requires : tie.Need-compare-all-requires
-compare-all-requires c κs = (length-replicate {A = ℕ} 81 0, length-replicate {A = ℕ} 599994 0, length-replicate {A = ℕ} 599994 0, omega (arith, (c .before .before .before .before .before .buffer .ensures)))
+compare-all-requires c κs = (
+  length-replicate {A = ℕ} 81 0,
+  length-replicate {A = ℕ} 599994 0,
+  length-replicate {A = ℕ} 599994 0,
+  omega (arith, c .before .before .before .before .before .buffer .ensures),
+)
 
 returns : tie.Need-returns
 returns c = search needs

@@ -61,7 +61,10 @@ same-length-6 c = omega arith
 returns-2 : tie.Need-returns-2 Inv-loop μ-loop
 returns-2 c = let l = (c .before .before .before .before .loop) in (
   l .inv .8,
-  (record { filled = omega arith; lined = omega arith; within = omega arith; fit = l .inv .6 }, (l .inv .0, λ h k. begun (l .i) _ (l .r .at) (length (l .out)) (l .inv .7) (omega arith) (omega arith))),
+  (
+    record { filled = omega arith; lined = omega arith; within = omega arith; fit = l .inv .6 },
+    (l .inv .0, λ h k. begun (l .i) _ (l .r .at) (length (l .out)) (l .inv .7) (omega arith) (omega arith)),
+  ),
 )
 
 find-lf-requires : tie.Need-find-lf-requires Inv-loop μ-loop
@@ -77,7 +80,10 @@ part-take-span-end : tie.Need-part-take-span-end Inv-loop μ-loop
 part-take-span-end c = omega arith
 
 take-span-requires : tie.Need-take-span-requires Inv-loop μ-loop
-take-span-requires c κs = (omega arith, no-lf ((c .before .before .before .before .before .before .before .before .before .before .before .before .before .args .text) .now) ((c .before .before .before .before .before .before .before .before .loop .i)) (c .before .before .before .find-lf .result) (c .before .before .before .find-lf .ensures))
+take-span-requires c κs = let entry = (c .before .before .before .before .before .before .before .before .before .before .before .before .before .args) in
+    let loop = (c .before .before .before .before .before .before .before .before .loop) in
+    let found = (c .before .before .before .find-lf) in
+    (omega arith, no-lf (entry .text .now) (loop .i) (found .result) (found .ensures))
 
 same-length-7 : tie.Need-same-length-7 Inv-loop μ-loop
 same-length-7 c = omega arith
@@ -110,19 +116,28 @@ sub-take-line-2 : tie.Need-sub-take-line-2 Inv-loop μ-loop
 sub-take-line-2 c = omega arith
 
 take-line-requires : tie.Need-take-line-requires Inv-loop μ-loop
-take-line-requires c κs = (
-  record { filled = omega arith; lined = omega arith; room = omega arith; fit = (c .before .before .before .before .before .before .before .before .before .before .loop .inv .6) },
-  (next-in-rest ((c .before .before .before .before .before .before .before .before .before .before .before .before .before .before .before .args .text) .now) ((c .before .before .before .before .before .before .before .before .before .before .loop .i)) (c .before .before .before .before .before .find-lf .result) (c .before .before .before .before .before .find-lf .ensures), omega (arith, length-rest ((c .before .before .before .before .before .before .before .before .before .before .before .before .before .before .before .args .text) .now) ((c .before .before .before .before .before .before .before .before .before .before .loop .i)))),
-)
+take-line-requires c κs =
+    let entry = (c .before .before .before .before .before .before .before .before .before .before .before .before .before .before .before .args) in
+    let loop = (c .before .before .before .before .before .before .before .before .before .before .loop) in
+    let found = (c .before .before .before .before .before .find-lf) in (
+      record { filled = omega arith; lined = omega arith; room = omega arith; fit = loop .inv .6 },
+      (next-in-rest (entry .text .now) (loop .i) (found .result) (found .ensures), omega (arith, length-rest (entry .text .now) (loop .i))),
+    )
 
 add-i : tie.Need-add-i Inv-loop μ-loop
-add-i c = omega (arith, (c .before .before .before .before .before .before .before .before .before .before .before .before .before .before .before .before .before .before .before .before .before .before .good .0 .0))
+add-i c = omega (
+  arith,
+  (c .before .before .before .before .before .before .before .before .before .before .before .before .before .before .before .before
+      .before .before .before .before .before .before .good .0 .0),
+)
 
 loop-less : tie.Need-loop-less Inv-loop μ-loop
 loop-less c = omega arith
 
 loop-again : tie.Need-loop-again Inv-loop μ-loop
-loop-again c = let a = (c .before .before .before .before .before .before .before .before .before .before .before .before .before .before .before .before .before .before .before .before .before .before .args) in
+loop-again c =
+    let a = (c .before .before .before .before .before .before .before .before .before .before .before .before .before .before .before .before .before .before
+    .before .before .before .before .args) in
     let l = (c .before .before .before .before .before .before .before .before .before .before .before .before .before .before .before .before .before .loop) in
     let e = (c .before .before .before .before .before .before .before .before .before .before .before .before .find-lf .result) in
     let d = (c .before .before .before .before .before .before .take-line .ensures) in

@@ -29,10 +29,11 @@ same-length-3 c = search needs
 
 returns : tie.Need-returns
 returns c = let a = (c .before .before .before .before .before .before .before .before .before .before .before .before .before .before .before .before .args) in
-    let put = (c .before .before .put-step .ensures) in (
+    let done = (c .before .before .before .before .before .before .before .before .before .before .perform) in
+    let put = c .before .before .put-step .ensures in (
       λ l. states refl refl refl refl refl (put-front put (omega arith))
-          ∙ sym (ap (λ (p : Performed). next (afterStep p) (stateOf (a .s) l (a .memory .now) (a .out .now))) (c .before .before .before .before .before .before .before .before .before .before .perform .ensures .0)),
-      ((refl, put-within put (omega arith)), (c .before .before .before .before .before .before .before .before .before .before .perform .ensures .1)),
+          ∙ sym (ap (λ (p : Performed). next (afterStep p) (stateOf (a .s) l (a .memory .now) (a .out .now))) (done .ensures .0)),
+      ((refl, put-within put (omega arith)), done .ensures .1),
     )
 
 pub do-step-spec : {M : Type 1} → statement M

@@ -4,10 +4,6 @@ use mathlib.Core.Path.{_∙_}
 use borrow.Author.Needs.{needs}
 use Rattle.reader.proofs.end_line.Statement.{statement}
 use Rattle.reader.proofs.end_line.Tie as tie
-use Rattle.reader.proofs.end_line.Reads as reads
-use Rattle.reader.proofs.end_line.Lts as lts
-use Rattle.reader.proofs.end_module_line.Reads as end-module-line-reads
-use Rattle.reader.proofs.end_run_line.Reads as end-run-line-reads
 
 end-run-line-requires : tie.Need-end-run-line-requires
 end-run-line-requires c κs = (c .before .before .before .before .before .before .before .pre)
@@ -19,7 +15,9 @@ same-length-2 : tie.Need-same-length-2
 same-length-2 c = search needs
 
 returns : tie.Need-returns
-returns c = ((c .before .before .before .before .end-run-line .ensures .0) ∙ run-answered _ (c .before .before .before .before .before .before .before .if1 .taken), (c .before .before .before .before .end-run-line .ensures .1))
+returns c = let if1 = (c .before .before .before .before .before .before .before .if1) in
+    let ended = (c .before .before .before .before .end-run-line) in
+    ((ended .ensures .0) ∙ run-answered _ (if1 .taken), ended .ensures .1)
 
 end-module-line-requires : tie.Need-end-module-line-requires
 end-module-line-requires c κs = (c .before .before .before .before .before .before .before .pre)
@@ -31,7 +29,9 @@ same-length-4 : tie.Need-same-length-4
 same-length-4 c = search needs
 
 returns-2 : tie.Need-returns-2
-returns-2 c = ((c .before .before .before .before .end-module-line .ensures .0) ∙ module-answered _ (c .before .before .before .before .before .before .before .if1 .left), (c .before .before .before .before .end-module-line .ensures .1))
+returns-2 c = let if1 = (c .before .before .before .before .before .before .before .if1) in
+    let ended = (c .before .before .before .before .end-module-line) in
+    ((ended .ensures .0) ∙ module-answered _ (if1 .left), ended .ensures .1)
 
 pub end-line-spec : {M : Type 1} → statement M
 end-line-spec =

@@ -7,11 +7,6 @@ use native.Mathlib.Omega.{arith}
 use borrow.Author.Needs.{needs}
 use Rattle.reader.proofs.end_module_line.Statement.{statement}
 use Rattle.reader.proofs.end_module_line.Tie as tie
-use Rattle.reader.proofs.end_module_line.Reads as reads
-use Rattle.reader.proofs.end_module_line.Lts as lts
-use Rattle.controller.proofs.placing.place.Reads as place-reads
-use Rattle.runfile.proofs.read_module.Reads as read-module-reads
-use Rattle.reader.proofs.refuse.Reads as refuse-reads
 
 slice-aggregate-read-module : tie.Need-slice-aggregate-read-module
 slice-aggregate-read-module c = sym (length-take-le (c .before .before .before .before .args .s .fill) (c .before .before .before .before .args .line .now) (omega arith))
@@ -47,11 +42,14 @@ same-length : tie.Need-same-length
 same-length c = search needs
 
 returns : tie.Need-returns
-returns c = (
-  (c .before .before .refuse .ensures .0) (c .before .before .before .before .before .before .before .before .before .before .before .before .args .line .now) (c .before .before .before .before .before .before .before .before .before .before .before .before .args .memory .now) 0
-      ∙ line-bad (stateOf (c .before .before .before .before .before .before .before .before .before .before .before .before .args .s) (c .before .before .before .before .before .before .before .before .before .before .before .before .args .line .now) (c .before .before .before .before .before .before .before .before .before .before .before .before .args .memory .now) (c .before .before .before .before .before .before .before .before .before .before .before .before .args .out .now)) _ _ 0 (c .before .before .before .before .before .before .before .before .before .before .before .before .pre .0 .fit) (sym (c .before .before .before .before .before .before .before .read-module .ensures .0) ∙ (c .before .before .before .before .before .read .given .1)),
-  record { filled = omega arith; lined = omega arith; within = omega arith; fit = (c .before .before .before .before .before .before .before .before .before .before .before .before .pre .0 .fit) },
-)
+returns c = let entry = (c .before .before .before .before .before .before .before .before .before .before .before .before .args) in
+    let pre = (c .before .before .before .before .before .before .before .before .before .before .before .before .pre) in
+    let read-module = (c .before .before .before .before .before .before .before .read-module) in (
+      (c .before .before .refuse .ensures .0) (entry .line .now) (entry .memory .now) 0
+          ∙ line-bad (stateOf (entry .s) (entry .line .now) (entry .memory .now) (entry .out .now)) _ _ 0 (pre .0 .fit)
+          (sym (read-module .ensures .0) ∙ (c .before .before .before .before .before .read .given .1)),
+      record { filled = omega arith; lined = omega arith; within = omega arith; fit = pre .0 .fit },
+    )
 
 same-length-2 : tie.Need-same-length-2
 same-length-2 c = search needs
@@ -60,20 +58,32 @@ same-length-3 : tie.Need-same-length-3
 same-length-3 c = search needs
 
 returns-2 : tie.Need-returns-2
-returns-2 c = (
-  (c .before .before .refuse2 .ensures .0) (c .before .before .before .before .before .before .before .before .before .before .before .before .before .before .before .before .before .before .before .args .line .now) _ 0
-      ∙ line-placed (stateOf (c .before .before .before .before .before .before .before .before .before .before .before .before .before .before .before .before .before .before .before .args .s) (c .before .before .before .before .before .before .before .before .before .before .before .before .before .before .before .before .before .before .before .args .line .now) (c .before .before .before .before .before .before .before .before .before .before .before .before .before .before .before .before .before .before .before .args .memory .now) (c .before .before .before .before .before .before .before .before .before .before .before .before .before .before .before .before .before .before .before .args .out .now)) _ _ _ _ _ (c .before .before .before .before .before .before .before .before .before .before .before .before .before .before .before .before .before .before .before .pre .0 .fit) (sym (c .before .before .before .before .before .before .before .before .before .before .before .before .before .before .read-module .ensures .0) ∙ (c .before .before .before .before .before .before .before .before .before .before .before .before .read2 .given .1)) (c .before .before .before .before .before .before .before .before .before .place .ensures .0) (c .before .before .before .before .before .verdict .given .1),
-  record { filled = omega arith; lined = omega arith; within = omega arith; fit = (c .before .before .before .before .before .before .before .before .before .place .ensures .1) },
-)
+returns-2 c =
+    let far = c .before .before .before .before .before .before .before .before .before .before .before .before .before .before .before .before .before .before in
+    let entry = (far .before .args) in
+    let pre = (far .before .pre) in
+    let read-module = (c .before .before .before .before .before .before .before .before .before .before .before .before .before .before .read-module) in
+    let read2 = (c .before .before .before .before .before .before .before .before .before .before .before .before .read2) in
+    let placed = (c .before .before .before .before .before .before .before .before .before .place) in (
+      (c .before .before .refuse2 .ensures .0) (entry .line .now) _ 0
+          ∙ line-placed (stateOf (entry .s) (entry .line .now) (entry .memory .now) (entry .out .now)) _ _ _ _ _ (pre .0 .fit)
+          (sym (read-module .ensures .0) ∙ (read2 .given .1)) (placed .ensures .0) (c .before .before .before .before .before .verdict .given .1),
+      record { filled = omega arith; lined = omega arith; within = omega arith; fit = placed .ensures .1 },
+    )
 
 same-length-4 : tie.Need-same-length-4
 same-length-4 c = search needs
 
 returns-3 : tie.Need-returns-3
-returns-3 c = (
-  line-placed (stateOf (c .before .before .before .before .before .before .before .before .before .before .before .before .before .before .before .args .s) (c .before .before .before .before .before .before .before .before .before .before .before .before .before .before .before .args .line .now) (c .before .before .before .before .before .before .before .before .before .before .before .before .before .before .before .args .memory .now) (c .before .before .before .before .before .before .before .before .before .before .before .before .before .before .before .args .out .now)) _ _ _ _ _ (c .before .before .before .before .before .before .before .before .before .before .before .before .before .before .before .pre .0 .fit) (sym (c .before .before .before .before .before .before .before .before .before .before .read-module .ensures .0) ∙ (c .before .before .before .before .before .before .before .before .read2 .given .1)) (c .before .before .before .before .before .place .ensures .0) (c .before .enum-told .given .1),
-  record { filled = omega arith; lined = omega arith; within = omega arith; fit = (c .before .before .before .before .before .place .ensures .1) },
-)
+returns-3 c = let entry = (c .before .before .before .before .before .before .before .before .before .before .before .before .before .before .before .args) in
+    let pre = (c .before .before .before .before .before .before .before .before .before .before .before .before .before .before .before .pre) in
+    let read-module = (c .before .before .before .before .before .before .before .before .before .before .read-module) in
+    let read2 = (c .before .before .before .before .before .before .before .before .read2) in
+    let placed = (c .before .before .before .before .before .place) in (
+      line-placed (stateOf (entry .s) (entry .line .now) (entry .memory .now) (entry .out .now)) _ _ _ _ _ (pre .0 .fit)
+          (sym (read-module .ensures .0) ∙ (read2 .given .1)) (placed .ensures .0) (c .before .enum-told .given .1),
+      record { filled = omega arith; lined = omega arith; within = omega arith; fit = placed .ensures .1 },
+    )
 
 pub end-module-line-spec : {M : Type 1} → statement M
 end-module-line-spec =

@@ -10,7 +10,7 @@ use Rattle.reader.proofs.end_run_line.Statement.{statement}
 use Rattle.reader.proofs.end_run_line.Tie as tie
 
 slice-aggregate-read-line : tie.Need-slice-aggregate-read-line
-slice-aggregate-read-line c = sym (length-take-le ((c .before .before .before .before .args .s) .fill) ((c .before .before .before .before .args .line) .now) (omega arith))
+slice-aggregate-read-line c = let entry = (c .before .before .before .before .args) in sym (length-take-le (entry .s .fill) (entry .line .now) (omega arith))
 
 read-line-requires : tie.Need-read-line-requires
 read-line-requires c κs = search needs
@@ -31,9 +31,12 @@ same-length-2 : tie.Need-same-length-2
 same-length-2 c = search needs
 
 returns : tie.Need-returns
-returns c = let a = (c .before .before .before .before .before .before .before .before .before .before .before .before .before .before .before .before .args) in
-    let d = (c .before .before .before .before .before .do-step .ensures) in (
-      d .0 (a .line .now) ∙ line-done (stateOf (a .s) (a .line .now) (a .memory .now) (a .out .now)) _ _ _ (c .before .before .before .before .before .before .before .before .before .before .before .before .before .before .before .before .pre .0 .fit) (c .before .before .before .before .before .before .before .before .before .before .before .read-line .ensures .0) (λ e. refl),
+returns c = let pre = (c .before .before .before .before .before .before .before .before .before .before .before .before .before .before .before .before .pre) in
+    let a = (c .before .before .before .before .before .before .before .before .before .before .before .before .before .before .before .before .args) in
+    let read = (c .before .before .before .before .before .before .before .before .before .before .before .read-line) in
+    let d = c .before .before .before .before .before .do-step .ensures in (
+      d .0 (a .line .now)
+          ∙ line-done (stateOf (a .s) (a .line .now) (a .memory .now) (a .out .now)) _ _ _ (pre .0 .fit) (read .ensures .0) (λ e. refl),
       record { filled = omega arith; lined = omega arith; within = omega arith; fit = d .1 .1 },
     )
 
@@ -50,9 +53,15 @@ same-length-4 : tie.Need-same-length-4
 same-length-4 c = search needs
 
 returns-2 : tie.Need-returns-2
-returns-2 c = let a = (c .before .before .before .before .before .before .before .before .before .before .before .before .before .before .before .before .args) in
-    let d = (c .before .before .before .before .before .do-step2 .ensures) in (
-      d .0 (a .line .now) ∙ line-done (stateOf (a .s) (a .line .now) (a .memory .now) (a .out .now)) _ _ _ (c .before .before .before .before .before .before .before .before .before .before .before .before .before .before .before .before .pre .0 .fit) (c .before .before .before .before .before .before .before .before .before .before .before .read-line .ensures .0) (λ e. absurd (false≢true (sym (c .before .before .before .before .before .before .before .before .before .if1 .left) ∙ (c .before .before .before .before .before .before .before .before .before .before .uses-buffer .ensures) ∙ e))),
+returns-2 c = let pre = (c .before .before .before .before .before .before .before .before .before .before .before .before .before .before .before .before .pre) in
+    let a = (c .before .before .before .before .before .before .before .before .before .before .before .before .before .before .before .before .args) in
+    let read = (c .before .before .before .before .before .before .before .before .before .before .before .read-line) in
+    let uses = (c .before .before .before .before .before .before .before .before .before .before .uses-buffer) in
+    let if1 = (c .before .before .before .before .before .before .before .before .before .if1) in
+    let d = c .before .before .before .before .before .do-step2 .ensures in (
+      d .0 (a .line .now)
+          ∙ line-done (stateOf (a .s) (a .line .now) (a .memory .now) (a .out .now)) _ _ _ (pre .0 .fit) (read .ensures .0)
+          (λ e. absurd (false≢true (sym (if1 .left) ∙ (uses .ensures) ∙ e))),
       record { filled = omega arith; lined = omega arith; within = omega arith; fit = d .1 .1 },
     )
 

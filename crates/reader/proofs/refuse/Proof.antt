@@ -1,4 +1,4 @@
--- `refuse` meets its contract.
+-- `refuse` meets its contract: the refusal is put behind what was printed (`put-front`), and the reader has ended: no byte held, phase 2.
 use Rattle.lines.proofs.Parts.{put-front}
 use Rattle.reader.proofs.ReadingLaws.{states, put-within}
 use mathlib.Core.Path.{refl}
@@ -6,9 +6,6 @@ use native.Mathlib.Omega.{arith}
 use borrow.Author.Needs.{needs}
 use Rattle.reader.proofs.refuse.Statement.{statement}
 use Rattle.reader.proofs.refuse.Tie as tie
-use Rattle.reader.proofs.refuse.Reads as reads
-use Rattle.reader.proofs.refuse.Lts as lts
-use Rattle.sheet.proofs.put_crate_refusal.Reads as put-crate-refusal-reads
 
 add-k : tie.Need-add-k
 add-k c = search needs

@@ -22,24 +22,29 @@ shut-line s t e = ap (λ (x : State). step rehearsing x 10) (feed-shut rehearsin
 
 returns : tie.Need-returns
 returns c = let a = (c .before .before .before .before .before .args) in (
-  λ l. sym (shut-line (stateOf (a .s) l (a .memory .now) (a .out .now)) (take (a .n) (a .text .now)) (shut-over (stateOf (a .s) l (a .memory .now) (a .out .now)) (c .if1 .taken))),
-  (omega arith, (c .before .before .before .before .before .pre .1 .0)),
+  λ l. sym (shut-line (stateOf (a .s) l (a .memory .now) (a .out .now)) (take (a .n) (a .text .now))
+      (shut-over (stateOf (a .s) l (a .memory .now) (a .out .now)) (c .if1 .taken))),
+  (omega arith, c .before .before .before .before .before .pre .1 .0),
 )
 
 returns-2 : tie.Need-returns-2
-returns-2 c = let a = (c .before .before .before .before .before .before .before .args) in (
-  λ l. sym (shut-line (stateOf (a .s) l (a .memory .now) (a .out .now)) (take (a .n) (a .text .now)) (shut-ended (stateOf (a .s) l (a .memory .now) (a .out .now)) (c .if2 .taken))),
-  (omega arith, (c .before .before .before .before .before .before .before .pre .1 .0)),
-)
+returns-2 c = let pre = (c .before .before .before .before .before .before .before .pre) in
+    let a = (c .before .before .before .before .before .before .before .args) in (
+      λ l. sym (shut-line (stateOf (a .s) l (a .memory .now) (a .out .now)) (take (a .n) (a .text .now))
+          (shut-ended (stateOf (a .s) l (a .memory .now) (a .out .now)) (c .if2 .taken))),
+      (omega arith, pre .1 .0),
+    )
 
 least-requires : tie.Need-least-requires
 least-requires c κs = search needs
 
 slice-aggregate-end-line : tie.Need-slice-aggregate-end-line
-slice-aggregate-end-line c = sym (length-take-le 81 ((c .before .before .before .before .before .before .before .before .before .args .text) .now) (omega arith))
+slice-aggregate-end-line c = sym (length-take-le 81 (c .before .before .before .before .before .before .before .before .before .args .text .now) (omega arith))
 
 end-line-requires : tie.Need-end-line-requires
-end-line-requires c κs = (record { filled = omega arith; lined = length-take-le 81 ((c .before .before .before .before .before .before .before .before .before .before .before .args .text) .now) (omega arith); room = omega arith; fit = (c .before .before .before .before .before .before .before .before .before .before .before .pre .1 .0) }, omega arith)
+end-line-requires c κs = let entry = (c .before .before .before .before .before .before .before .before .before .before .before .args) in
+    let pre = (c .before .before .before .before .before .before .before .before .before .before .before .pre) in
+    (record { filled = omega arith; lined = length-take-le 81 (entry .text .now) (omega arith); room = omega arith; fit = pre .1 .0 }, omega arith)
 
 same-length : tie.Need-same-length
 same-length c = search needs
@@ -48,13 +53,18 @@ same-length-2 : tie.Need-same-length-2
 same-length-2 c = search needs
 
 returns-3 : tie.Need-returns-3
-returns-3 c = let a = (c .before .before .before .before .before .before .before .before .before .before .before .before .before .before .before .before .args) in
+returns-3 c = let pre = (c .before .before .before .before .before .before .before .before .before .before .before .before .before .before .before .before .pre) in
+    let a = (c .before .before .before .before .before .before .before .before .before .before .before .before .before .before .before .before .args) in
+    let if1 = (c .before .before .before .before .before .before .before .before .before .before .before .if1) in
+    let if2 = (c .before .before .before .before .before .before .before .before .before .if2) in
+    let least = (c .before .before .before .before .before .before .before .before .least) in
+    let ended = (c .before .before .before .before .end-line) in
     let window = take 81 (a .text .now) in
-    let d = (c .before .before .before .before .end-line .ensures) in
-    let fill = none-held (c .before .before .before .before .end-line .result) window _ _ _ (omega (arith, length-take-le 81 (a .text .now) (omega arith))) (d .0) in (
-      λ l. anywhere (c .before .before .before .before .end-line .result) l window _ _ fill
-          ∙ d .0
-          ∙ in-place (stateOf (a .s) l (a .memory .now) (a .out .now)) _ (take (a .n) (a .text .now)) (ap (λ (k : ℕ). take k l) (c .before .before .before .before .before .before .before .before .before .before .before .before .before .before .before .before .pre .0 .0)) (c .before .before .before .before .before .before .before .before .before .before .before .if1 .left) (c .before .before .before .before .before .before .before .before .before .if2 .left) (c .before .before .before .before .before .before .before .before .before .before .before .before .before .before .before .before .pre .1 .1) (window-part (a .text .now) (a .n) _ (omega arith) (c .before .before .before .before .before .before .before .before .least .ensures .1)),
+    let d = ended .ensures in
+    let fill = none-held (ended .result) window _ _ _ (omega (arith, length-take-le 81 (a .text .now) (omega arith))) (d .0) in (
+      λ l. anywhere (ended .result) l window _ _ fill ∙ d .0
+          ∙ in-place (stateOf (a .s) l (a .memory .now) (a .out .now)) _ (take (a .n) (a .text .now)) (ap (λ (k : ℕ). take k l) (pre .0 .0)) (if1 .left) (if2 .left)
+          (pre .1 .1) (window-part (a .text .now) (a .n) _ (omega arith) (least .ensures .1)),
       ((fill, d .1 .within), d .1 .fit),
     )
 

@@ -4,7 +4,7 @@ use Rattle.lines.specs.Cutting.{feed, step}
 use Rattle.lines.proofs.CuttingLaws.{fed-more}
 use Rattle.reader.specs.Reading.{State, rehearsing, stateOf}
 use lib.Seq.{length-take-le}
-use lib.ListN.{getD, take}
+use lib.ListN.{take}
 use native.Mathlib.Omega.{arith}
 use Prim.Native.Nat.{ℕ}
 use mathlib.Core.Path.{refl, sym, ap, _∙_}
@@ -13,7 +13,10 @@ use Rattle.reader.proofs.take_line.Statement.{statement}
 use Rattle.reader.proofs.take_line.Tie as tie
 
 take-in-place-requires : tie.Need-take-in-place-requires
-take-in-place-requires c κs = (((c .before .before .before .if1 .taken), omega arith, omega arith, omega arith), ((c .before .before .before .before .before .before .before .before .pre .0 .fit), no-lf-front ((c .before .before .before .before .before .before .before .before .args .text) .now) ((c .before .before .before .before .before .before .before .before .args .n)) (c .before .before .before .before .before .before .before .before .pre .1 .0)))
+take-in-place-requires c κs = let start = c .before .before .before .before .before .before .before .before in
+    let a = start .args in
+    let pre = start .pre in
+    (((c .before .before .before .if1 .taken), omega arith, omega arith, omega arith), (pre .0 .fit, no-lf-front (a .text .now) (a .n) (pre .1 .0)))
 
 same-length : tie.Need-same-length
 same-length c = search needs
@@ -22,26 +25,27 @@ same-length-2 : tie.Need-same-length-2
 same-length-2 c = search needs
 
 returns : tie.Need-returns
-returns c = let a = (c .before .before .before .before .before .before .before .before .before .before .before .before .before .args) in
+returns c = let start = c .before .before .before .before .before .before .before .before .before .before .before .before .before in
+    let a = start .args in
+    let pre = start .pre in
     let s = stateOf (a .s) (a .line .now) (a .memory .now) (a .out .now) in
     let d = (c .before .before .before .before .take-in-place .ensures) in (
       d .0 (a .line .now)
-          ∙ ap (λ (b : ℕ). step rehearsing (feed rehearsing s (take (a .n) (a .text .now))) b) (sym ((c .before .before .before .before .before .before .before .before .before .before .before .before .before .pre .1 .0 .there) (c .before .before .before .before .before .before .before .before .before .before .before .before .before .pre .1 .1)))
-          ∙ fed-more rehearsing s (a .text .now) _ (a .n) refl (c .before .before .before .before .before .before .before .before .before .before .before .before .before .pre .1 .1),
+          ∙ ap (λ (b : ℕ). step rehearsing (feed rehearsing s (take (a .n) (a .text .now))) b) (sym ((pre .1 .0 .there) (pre .1 .1)))
+          ∙ fed-more rehearsing s (a .text .now) _ (a .n) refl (pre .1 .1),
       record { filled = omega arith; lined = omega arith; within = omega arith; fit = d .1 .1 },
     )
 
 slice-aggregate-take-span : tie.Need-slice-aggregate-take-span
-slice-aggregate-take-span c = sym (length-take-le ((c .before .before .before .before .before .before .args .n)) ((c .before .before .before .before .before .before .args .text) .now) (omega arith))
+slice-aggregate-take-span c = let a = (c .before .before .before .before .before .before .args) in
+    sym (length-take-le (a .n) (a .text .now) (omega arith))
 
 take-span-requires : tie.Need-take-span-requires
-take-span-requires c κs = (omega arith, no-lf-front ((c .before .before .before .before .before .before .before .args .text) .now) ((c .before .before .before .before .before .before .before .args .n)) (c .before .before .before .before .before .before .before .pre .1 .0))
+take-span-requires c κs = let start = c .before .before .before .before .before .before .before in
+    (omega arith, no-lf-front (start .args .text .now) (start .args .n) (start .pre .1 .0))
 
-shared-slice-read-take-byte : tie.Need-shared-slice-read-take-byte
-shared-slice-read-take-byte c = search needs
-
-take-byte-requires : tie.Need-take-byte-requires
-take-byte-requires c κs = search needs
+take-lf-requires : tie.Need-take-lf-requires
+take-lf-requires c κs = search needs
 
 same-length-3 : tie.Need-same-length-3
 same-length-3 c = search needs
@@ -53,12 +57,16 @@ same-length-5 : tie.Need-same-length-5
 same-length-5 c = search needs
 
 returns-2 : tie.Need-returns-2
-returns-2 c = let a = (c .before .before .before .before .before .before .before .before .before .before .before .before .before .before .before .before .before .before .before .before .before .args) in
-    let s = stateOf (a .s) (a .line .now) (a .memory .now) (a .out .now) in
-    let d = (c .before .before .before .before .before .before .take-byte .ensures) in (
+returns-2 c =
+    let spanned = c .before .before .before .before .before .before .before .before .before .before in
+    let start = spanned .before .before .before .before .before .before .before .before in
+    let a = start .args in
+    let d = c .before .before .before .before .take-lf .ensures in
+    let s = stateOf (a .s) (a .line .now) (a .memory .now) (a .out .now) in (
       d .0
-          ∙ ap (λ (x : State). step rehearsing x (getD (a .text .now) (a .n) 0)) ((c .before .before .before .before .before .before .before .before .before .before .before .before .before .take-span .ensures .0) (a .memory .now) (a .out .now))
-          ∙ fed-more rehearsing s (a .text .now) _ (a .n) refl (c .before .before .before .before .before .before .before .before .before .before .before .before .before .before .before .before .before .before .before .before .before .pre .1 .1),
+          ∙ ap (λ (x : State). step rehearsing x 10) (spanned .take-span .ensures .0 (a .memory .now) (a .out .now))
+          ∙ ap (λ (b : ℕ). step rehearsing (feed rehearsing s (take (a .n) (a .text .now))) b) (sym (start .pre .1 .0 .there (start .pre .1 .1)))
+          ∙ fed-more rehearsing s (a .text .now) _ (a .n) refl (start .pre .1 .1),
       d .1,
     )
 
@@ -72,8 +80,7 @@ take-line-spec =
     returns
     slice-aggregate-take-span
     take-span-requires
-    shared-slice-read-take-byte
-    take-byte-requires
+    take-lf-requires
     same-length-3
     same-length-4
     same-length-5

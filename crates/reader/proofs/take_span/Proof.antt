@@ -12,10 +12,16 @@ use Rattle.reader.proofs.take_span.Statement.{statement}
 use Rattle.reader.proofs.take_span.Tie as tie
 
 returns : tie.Need-returns
-returns c = let a = c .before .before .before .before .args in (λ m o. sym (feed-shut rehearsing (stateOf (a .s) (now (a .line)) m o) (now (a .span)) (shut-over (stateOf (a .s) (now (a .line)) m o) (c .if1 .taken))), omega arith)
+returns c = let a = c .before .before .before .before .args in (
+  λ m o. sym (feed-shut rehearsing (stateOf (a .s) (now (a .line)) m o) (now (a .span)) (shut-over (stateOf (a .s) (now (a .line)) m o) (c .if1 .taken))),
+  omega arith,
+)
 
 returns-2 : tie.Need-returns-2
-returns-2 c = let a = c .before .before .before .before .before .before .args in (λ m o. sym (feed-shut rehearsing (stateOf (a .s) (now (a .line)) m o) (now (a .span)) (shut-ended (stateOf (a .s) (now (a .line)) m o) (c .if2 .taken))), omega arith)
+returns-2 c = let a = c .before .before .before .before .before .before .args in (
+  λ m o. sym (feed-shut rehearsing (stateOf (a .s) (now (a .line)) m o) (now (a .span)) (shut-ended (stateOf (a .s) (now (a .line)) m o) (c .if2 .taken))),
+  omega arith,
+)
 
 keep-requires : tie.Need-keep-requires
 keep-requires c κs = search needs

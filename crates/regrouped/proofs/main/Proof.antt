@@ -46,14 +46,16 @@ returns : tie.Need-returns
 returns c = search needs
 
 array-share-prefix-first-path : tie.Need-array-share-prefix-first-path
-array-share-prefix-first-path c = let named = (c .before .before .before .before .files-named) in named .ensures (not-false (named .result .ok) (c .if1 .left)) .first-within
+array-share-prefix-first-path c = let named = (c .before .before .before .before .files-named) in
+    named .ensures (not-false (named .result .ok) (c .if1 .left)) .first-within
 
 slice-aggregate-compare-files : tie.Need-slice-aggregate-compare-files
 slice-aggregate-compare-files c = let named = (c .before .before .before .before .before .files-named) in
     sym (length-take-le (named .result .first) (named .last .1 .1 .0) (named .ensures (not-false (named .result .ok) (c .before .if1 .left)) .first-within))
 
 array-share-prefix-second-path : tie.Need-array-share-prefix-second-path
-array-share-prefix-second-path c = let named = (c .before .before .before .before .before .files-named) in named .ensures (not-false (named .result .ok) (c .before .if1 .left)) .second-within
+array-share-prefix-second-path c = let named = (c .before .before .before .before .before .files-named) in
+    named .ensures (not-false (named .result .ok) (c .before .if1 .left)) .second-within
 
 slice-aggregate-compare-files-2 : tie.Need-slice-aggregate-compare-files-2
 slice-aggregate-compare-files-2 c = let named = (c .before .before .before .before .before .before .files-named) in
@@ -75,7 +77,9 @@ slice-aggregate-compare-files-7 : tie.Need-slice-aggregate-compare-files-7
 slice-aggregate-compare-files-7 c = search needs
 
 compare-files-requires : tie.Need-compare-files-requires
-compare-files-requires c κs = (length-replicate {A = ℕ} 81 0, length-replicate {A = ℕ} 599994 0, length-replicate {A = ℕ} 599994 0, omega (arith, (c .before .before .before .before .before .before .before .before .before .before .before .before .before .before .before .before .before .before .buffer .ensures)))
+compare-files-requires c κs =
+    let buffer = (c .before .before .before .before .before .before .before .before .before .before .before .before .before .before .before .before .before .before .buffer) in
+    (length-replicate {A = ℕ} 81 0, length-replicate {A = ℕ} 599994 0, length-replicate {A = ℕ} 599994 0, omega (arith, buffer .ensures))
 
 returns-2 : tie.Need-returns-2
 returns-2 c = search needs

@@ -2,8 +2,7 @@
 use native.Mathlib.Omega.{arith}
 use Rattle.text.specs.Text.{bytes}
 use Rattle.text.proofs.Decimal.{length-ten}
-use Rattle.text.proofs.Paste.{put-then}
-use Rattle.sheet.proofs.Room.{after-field}
+use Rattle.text.proofs.Paste.{put-then, after-field}
 use Rattle.regrouping.specs.Files.{refusedText}
 use borrow.Author.Needs.{needs}
 use Rattle.regrouping.proofs.put_refused.Statement.{statement}
@@ -19,20 +18,30 @@ slice-aggregate-put-field-2 : tie.Need-slice-aggregate-put-field-2
 slice-aggregate-put-field-2 c = search needs
 
 put-field-requires-2 : tie.Need-put-field-requires-2
-put-field-requires-2 c κs = omega (arith, after-field (bytes ": ") (c .before .before .before .before .before .before .before .before .args .many) (c .before .before .before .before .put-field .ensures), length-ten (c .before .before .before .before .before .before .before .before .args .all))
+put-field-requires-2 c κs = let entry = (c .before .before .before .before .before .before .before .before .args) in
+    omega (arith, after-field (bytes ": ") (entry .many) (c .before .before .before .before .put-field .ensures), length-ten (entry .all))
 
 slice-aggregate-put-bytes : tie.Need-slice-aggregate-put-bytes
 slice-aggregate-put-bytes c = search needs
 
 put-bytes-requires : tie.Need-put-bytes-requires
-put-bytes-requires c κs = omega (arith, after-field (bytes ": ") (c .before .before .before .before .before .before .before .before .before .before .before .before .before .args .many) (c .before .before .before .before .before .before .before .before .before .put-field .ensures), after-field (bytes " of ") (c .before .before .before .before .before .before .before .before .before .before .before .before .before .args .all) (c .before .before .before .before .put-field2 .ensures))
+put-bytes-requires c κs = let entry = (c .before .before .before .before .before .before .before .before .before .before .before .before .before .args) in
+    let many = (c .before .before .before .before .before .before .before .before .before .put-field) in
+    omega (
+      arith,
+      after-field (bytes ": ") (entry .many) (many .ensures),
+      after-field (bytes " of ") (entry .all)
+          (c .before .before .before .before .put-field2 .ensures),
+    )
 
 same-length : tie.Need-same-length
 same-length c = search needs
 
 returns : tie.Need-returns
 unfolding refusedText
-returns c = put-then (put-then (c .before .before .before .before .before .before .before .before .before .before .before .before .put-field .ensures) (c .before .before .before .before .before .before .before .put-field2 .ensures) (omega arith)) (c .before .before .put-bytes .ensures) (omega arith)
+returns c = let many = (c .before .before .before .before .before .before .before .before .before .before .before .before .put-field) in
+    let all = (c .before .before .before .before .before .before .before .put-field2) in
+    put-then (put-then (many .ensures) (all .ensures) (omega arith)) (c .before .before .put-bytes .ensures) (omega arith)
 
 pub put-refused-spec : {M : Type 1} → statement M
 put-refused-spec =

@@ -19,7 +19,8 @@ slice-aggregate-put-refused : tie.Need-slice-aggregate-put-refused
 slice-aggregate-put-refused c = search needs
 
 cast-put-refused : tie.Need-cast-put-refused
-cast-put-refused c = omega (arith, (c .before .before .refused .ensures), refused-few (c .before .before .before .before .before .args .words .now) (count (c .before .before .before .before .before .args .words .now)), (c .before .before .before .before .before .pre))
+cast-put-refused c = let entry = (c .before .before .before .before .before .args) in
+    omega (arith, c .before .before .refused .ensures, refused-few (entry .words .now) (count (entry .words .now)), c .before .before .before .before .before .pre)
 
 cast-put-refused-2 : tie.Need-cast-put-refused-2
 cast-put-refused-2 c = search needs

@@ -20,7 +20,7 @@ slice-aggregate-write-out : tie.Need-slice-aggregate-write-out
 slice-aggregate-write-out c = search needs
 
 write-out-requires : tie.Need-write-out-requires
-write-out-requires c κs = put-within ((c .before .before .before .before .put-report .ensures) .put)
+write-out-requires c κs = put-within (c .before .before .before .before .put-report .ensures .put)
 
 same-length : tie.Need-same-length
 same-length c = search needs

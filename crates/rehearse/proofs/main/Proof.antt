@@ -43,14 +43,16 @@ returns : tie.Need-returns
 returns c = search needs
 
 array-share-prefix-crate-path : tie.Need-array-share-prefix-crate-path
-array-share-prefix-crate-path c = let named = (c .before .before .before .before .files-named) in named .ensures (not-false (named .result .ok) (c .if1 .left)) .first-within
+array-share-prefix-crate-path c = let named = (c .before .before .before .before .files-named) in
+    named .ensures (not-false (named .result .ok) (c .if1 .left)) .first-within
 
 slice-aggregate-rehearse : tie.Need-slice-aggregate-rehearse
 slice-aggregate-rehearse c = let named = (c .before .before .before .before .before .files-named) in
     sym (length-take-le (named .result .first) (named .last .1 .1 .0) (named .ensures (not-false (named .result .ok) (c .before .if1 .left)) .first-within))
 
 array-share-prefix-run-path : tie.Need-array-share-prefix-run-path
-array-share-prefix-run-path c = let named = (c .before .before .before .before .before .files-named) in named .ensures (not-false (named .result .ok) (c .before .if1 .left)) .second-within
+array-share-prefix-run-path c = let named = (c .before .before .before .before .before .files-named) in
+    named .ensures (not-false (named .result .ok) (c .before .if1 .left)) .second-within
 
 slice-aggregate-rehearse-2 : tie.Need-slice-aggregate-rehearse-2
 slice-aggregate-rehearse-2 c = let named = (c .before .before .before .before .before .before .files-named) in

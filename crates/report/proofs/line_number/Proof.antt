@@ -12,10 +12,10 @@ add-result : tie.Need-add-result
 add-result c = search needs
 
 returns : tie.Need-returns
-returns c = line-in ((c .before .args .place)) ((c .before .args .many)) (omega arith)
+returns c = line-in (c .before .args .place) (c .before .args .many) (omega arith)
 
 returns-2 : tie.Need-returns-2
-returns-2 c = line-past ((c .before .args .place)) ((c .before .args .many)) (omega arith)
+returns-2 c = line-past (c .before .args .place) (c .before .args .many) (omega arith)
 
 pub line-number-spec : {M : Type 1} → statement M
 line-number-spec = tie.close (tie.spec cast-result add-result returns returns-2)

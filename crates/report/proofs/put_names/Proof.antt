@@ -2,8 +2,8 @@
 use native.Mathlib.Omega.{arith}
 use Rattle.text.specs.Text.{bytes}
 use Rattle.text.proofs.Decimal.{length-ten}
-use Rattle.text.proofs.Paste.{put-then}
-use Rattle.sheet.proofs.Room.{after-field, of-text}
+use Rattle.text.proofs.Paste.{put-then, after-field}
+use Rattle.sheet.proofs.Room.{of-text}
 use Rattle.report.proofs.LineLaws.{names-one, names-two}
 use borrow.Author.Needs.{needs}
 use Rattle.report.proofs.put_names.Statement.{statement}
@@ -13,7 +13,7 @@ slice-aggregate-put-field : tie.Need-slice-aggregate-put-field
 slice-aggregate-put-field c = search needs
 
 put-field-requires : tie.Need-put-field-requires
-put-field-requires c κs = omega (arith, length-ten ((c .before .before .before .args) .low))
+put-field-requires c κs = omega (arith, length-ten (c .before .before .before .args .low))
 
 same-length : tie.Need-same-length
 same-length c = search needs

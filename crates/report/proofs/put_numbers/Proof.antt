@@ -2,8 +2,7 @@
 use native.Mathlib.Omega.{arith}
 use Rattle.text.specs.Text.{bytes}
 use Rattle.text.proofs.Decimal.{length-ten}
-use Rattle.text.proofs.Paste.{put-then}
-use Rattle.sheet.proofs.Room.{after-field}
+use Rattle.text.proofs.Paste.{put-then, after-field}
 use Rattle.report.specs.Report.{numbersText}
 use borrow.Author.Needs.{needs}
 use Rattle.report.proofs.put_numbers.Statement.{statement}

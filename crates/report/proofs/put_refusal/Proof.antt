@@ -2,8 +2,8 @@
 use native.Mathlib.Omega.{arith}
 use Rattle.text.specs.Text.{bytes, field}
 use Rattle.text.proofs.Decimal.{length-ten}
-use Rattle.text.proofs.Paste.{put-then}
-use Rattle.sheet.proofs.Room.{after-field, put-nothing}
+use Rattle.text.proofs.Paste.{put-then, after-field}
+use Rattle.sheet.proofs.Room.{put-nothing}
 use Rattle.report.proofs.LineLaws.{line-as}
 use borrow.Author.Needs.{needs}
 use Rattle.report.proofs.put_refusal.Statement.{statement}
@@ -19,7 +19,7 @@ slice-aggregate-put-field : tie.Need-slice-aggregate-put-field
 slice-aggregate-put-field c = search needs
 
 put-field-requires : tie.Need-put-field-requires
-put-field-requires c κs = omega (arith, length-ten ((c .before .before .before .before .before .before .args) .q))
+put-field-requires c κs = omega (arith, length-ten (c .before .before .before .before .before .before .args .q))
 
 put-numbers-requires : tie.Need-put-numbers-requires
 put-numbers-requires c κs =

@@ -16,7 +16,7 @@ abbrev μ-loop : tie.MeasureT-loop
 loop-holds : tie.Need-loop-holds Inv-loop μ-loop
 loop-holds c =
     let p = (c .before .before .before .pre .1) in
-    (omega arith, omega (arith, p .1), refl, heard-start ((c .before .before .before .args) .out .now) (p .0) (p .2) refl)
+    (omega arith, omega (arith, p .1), refl, heard-start (c .before .before .before .args .out .now) (p .0) (p .2) refl)
 
 parting-of-requires : tie.Need-parting-of-requires Inv-loop μ-loop
 parting-of-requires c κs = let p = (c .before .before .before .before .before .pre .0) in (p .0, p .1)

@@ -63,31 +63,43 @@ read-repeat-requires : tie.Need-read-repeat-requires
 read-repeat-requires c κs = search needs
 
 returns-2 : tie.Need-returns-2
-returns-2 c = both (c .before .before .before .before .before .args .line .now) _ (c .read-naf .ensures ∙ letter-n (c .before .before .before .before .before .args .line .now) (c .before .match .keys1))
+returns-2 c = let entry = (c .before .before .before .before .before .args) in
+    both (entry .line .now) _ (c .read-naf .ensures ∙ letter-n (entry .line .now) (c .before .match .keys1))
 
 returns-3 : tie.Need-returns-3
-returns-3 c = both (c .before .before .before .before .before .args .line .now) _ (c .read-front .ensures ∙ letter-f (c .before .before .before .before .before .args .line .now) (c .before .match .keys2))
+returns-3 c = let entry = (c .before .before .before .before .before .args) in
+    both (entry .line .now) _ (c .read-front .ensures ∙ letter-f (entry .line .now) (c .before .match .keys2))
 
 returns-4 : tie.Need-returns-4
-returns-4 c = both (c .before .before .before .before .before .before .args .line .now) _ (c .read-bare .ensures ∙ letter-z (c .before .before .before .before .before .before .args .line .now) (c .before .before .match .keys3))
+returns-4 c = let entry = (c .before .before .before .before .before .before .args) in
+    both (entry .line .now) _ (c .read-bare .ensures ∙ letter-z (entry .line .now) (c .before .before .match .keys3))
 
 returns-5 : tie.Need-returns-5
-returns-5 c = both (c .before .before .before .before .before .before .args .line .now) _ (c .read-bare2 .ensures ∙ letter-c (c .before .before .before .before .before .before .args .line .now) (c .before .before .match .keys4))
+returns-5 c = let entry = (c .before .before .before .before .before .before .args) in
+    both (entry .line .now) _ (c .read-bare2 .ensures ∙ letter-c (entry .line .now) (c .before .before .match .keys4))
 
 returns-6 : tie.Need-returns-6
-returns-6 c = both (c .before .before .before .before .before .args .line .now) _ (c .read-inhibit .ensures ∙ letter-i (c .before .before .before .before .before .args .line .now) (c .before .match .keys5))
+returns-6 c = let entry = (c .before .before .before .before .before .args) in
+    both (entry .line .now) _ (c .read-inhibit .ensures ∙ letter-i (entry .line .now) (c .before .match .keys5))
 
 returns-7 : tie.Need-returns-7
-returns-7 c = both (c .before .before .before .before .before .before .args .line .now) _ (c .read-bare3 .ensures ∙ letter-l (c .before .before .before .before .before .before .args .line .now) (c .before .before .match .keys6))
+returns-7 c = let entry = (c .before .before .before .before .before .before .args) in
+    both (entry .line .now) _ (c .read-bare3 .ensures ∙ letter-l (entry .line .now) (c .before .before .match .keys6))
 
 returns-8 : tie.Need-returns-8
-returns-8 c = both (c .before .before .before .before .before .before .before .args .line .now) _ (either (c .before .before .read-scan .ensures) (c .before .read-stop .ensures) (c .or-else .ensures) ∙ letter-s (c .before .before .before .before .before .before .before .args .line .now) (c .before .before .before .match .keys7))
+returns-8 c = let entry = (c .before .before .before .before .before .before .before .args) in
+    both (entry .line .now) _ (either (c .before .before .read-scan .ensures) (c .before .read-stop .ensures) (c .or-else .ensures)
+    ∙ letter-s (entry .line .now) (c .before .before .before .match .keys7))
 
 returns-9 : tie.Need-returns-9
-returns-9 c = both (c .before .before .before .before .before .args .line .now) _ (c .read-repeat .ensures ∙ letter-r (c .before .before .before .before .before .args .line .now) (c .before .match .keys8))
+returns-9 c = let entry = (c .before .before .before .before .before .args) in
+    both (entry .line .now) _ (c .read-repeat .ensures ∙ letter-r (entry .line .now) (c .before .match .keys8))
 
 returns-10 : tie.Need-returns-10
-returns-10 c = let m = c .match .rest in both (c .before .before .before .before .args .line .now) _ (other-letter (c .before .before .before .before .args .line .now) (m .0 .0 .0 .0 .0 .0 .0 .1) (m .0 .0 .0 .0 .0 .0 .1) (m .0 .0 .0 .0 .0 .1) (m .0 .0 .0 .0 .1) (m .0 .0 .0 .1) (m .0 .0 .1) (m .0 .1) (m .1))
+returns-10 c = let entry = (c .before .before .before .before .args) in
+    let m = c .match .rest in
+    both (entry .line .now) _ (other-letter (entry .line .now) (m .0 .0 .0 .0 .0 .0 .0 .1) (m .0 .0 .0 .0 .0 .0 .1) (m .0 .0 .0 .0 .0 .1) (m .0 .0 .0 .0 .1)
+    (m .0 .0 .0 .1) (m .0 .0 .1) (m .0 .1) (m .1))
 
 pub read-line-spec : {M : Type 1} → statement M
 read-line-spec =

@@ -62,40 +62,40 @@ same-length : tie.Need-same-length
 same-length c = search needs
 
 returns : tie.Need-returns
-returns c = of-answer ((c .before .before .before .before .before .answer .given) .1) (c .before .before .put-reply .ensures)
+returns c = of-answer (c .before .before .before .before .before .answer .given .1) (c .before .before .put-reply .ensures)
 
 same-length-2 : tie.Need-same-length-2
 same-length-2 c = search needs
 
 returns-2 : tie.Need-returns-2
 unfolding body
-returns-2 c = of-answer ((c .before .before .before .before .before .before .answer2 .given) .1) (c .before .before .put-field .ensures)
+returns-2 c = of-answer (c .before .before .before .before .before .before .answer2 .given .1) (c .before .before .put-field .ensures)
 
 same-length-3 : tie.Need-same-length-3
 same-length-3 c = search needs
 
 returns-3 : tie.Need-returns-3
 unfolding body
-returns-3 c = of-answer ((c .before .before .before .before .before .enum-told .given) .1) (c .before .before .put-bytes .ensures)
+returns-3 c = of-answer (c .before .before .before .before .before .enum-told .given .1) (c .before .before .put-bytes .ensures)
 
 same-length-4 : tie.Need-same-length-4
 same-length-4 c = search needs
 
 returns-4 : tie.Need-returns-4
-returns-4 c = of-answer ((c .before .before .before .before .before .answer3 .given) .1) (c .before .before .put-reading .ensures)
+returns-4 c = of-answer (c .before .before .before .before .before .answer3 .given .1) (c .before .before .put-reading .ensures)
 
 same-length-5 : tie.Need-same-length-5
 same-length-5 c = search needs
 
 returns-5 : tie.Need-returns-5
-returns-5 c = of-answer ((c .before .before .before .before .before .answer4 .given) .1) (c .before .before .put-transfer .ensures)
+returns-5 c = of-answer (c .before .before .before .before .before .answer4 .given .1) (c .before .before .put-transfer .ensures)
 
 same-length-6 : tie.Need-same-length-6
 same-length-6 c = search needs
 
 returns-6 : tie.Need-returns-6
 unfolding body
-returns-6 c = of-answer ((c .before .before .before .before .before .before .before .answer5 .given) .1)
+returns-6 c = of-answer (c .before .before .before .before .before .before .before .answer5 .given .1)
     (of-text (ap (λ (n : ℕ). field " refused=" n) (c .before .before .before .refusal-number .ensures)) (c .before .before .put-field2 .ensures))
 
 pub put-body-spec : {M : Type 1} → statement M

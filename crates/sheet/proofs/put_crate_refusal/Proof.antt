@@ -4,9 +4,9 @@ use mathlib.Core.List.{_++_}
 use mathlib.Core.Path.{ap}
 use native.Mathlib.Omega.{arith}
 use borrow.Author.Needs.{needs}
-use Rattle.sheet.proofs.Room.{after-field, of-text}
+use Rattle.sheet.proofs.Room.{of-text}
 use Rattle.sheet.specs.Answers.{crateText}
-use Rattle.text.proofs.Paste.{put-then}
+use Rattle.text.proofs.Paste.{put-then, after-field}
 use Rattle.text.proofs.Decimal.{length-ten}
 use Rattle.text.specs.Text.{bytes, field}
 use Rattle.sheet.proofs.put_crate_refusal.Statement.{statement}
@@ -50,9 +50,13 @@ same-length c = search needs
 
 returns : tie.Need-returns
 unfolding crateText
-returns c = of-text (ap
-    (λ (n : ℕ). field "crate="
-    (c .before .before .before .before .before .before .before .before .before .before .before .before .before .before .before .before .before .args .k) ++ field " refused=" n ++ bytes "\n") (c .before .before .before .before .before .before .before .before .refusal-number .ensures)) (put-then (put-then (c .before .before .before .before .before .before .before .before .before .before .before .before .before .put-field .ensures) (c .before .before .before .before .before .before .before .put-field2 .ensures) (omega arith)) (c .before .before .put-bytes .ensures) (omega arith))
+returns c =
+    let entry = (c .before .before .before .before .before .before .before .before .before .before .before .before .before .before .before .before .before .args) in
+    let first = (c .before .before .before .before .before .before .before .before .before .before .before .before .before .put-field) in
+    let number = (c .before .before .before .before .before .before .before .before .refusal-number) in
+    let second = (c .before .before .before .before .before .before .before .put-field2) in
+    of-text (ap (λ (n : ℕ). field "crate=" (entry .k) ++ field " refused=" n ++ bytes "\n") (number .ensures))
+    (put-then (put-then (first .ensures) (second .ensures) (omega arith)) (c .before .before .put-bytes .ensures) (omega arith))
 
 pub put-crate-refusal-spec : {M : Type 1} → statement M
 put-crate-refusal-spec =

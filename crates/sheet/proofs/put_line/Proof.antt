@@ -1,9 +1,9 @@
 -- `put_line` meets its contract: key and number, body and LF, put one after the other.
 use native.Mathlib.Omega.{arith}
 use borrow.Author.Needs.{needs}
-use Rattle.sheet.proofs.Room.{after-field, put-end, body-short}
+use Rattle.sheet.proofs.Room.{put-end, body-short}
 use Rattle.sheet.specs.Answers.{stepLine}
-use Rattle.text.proofs.Paste.{put-then}
+use Rattle.text.proofs.Paste.{put-then, after-field}
 use Rattle.text.proofs.Decimal.{length-ten}
 use Rattle.text.specs.Text.{bytes}
 use Rattle.sheet.proofs.put_line.Statement.{statement}

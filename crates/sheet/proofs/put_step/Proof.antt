@@ -19,15 +19,13 @@ slice-aggregate-put-words : tie.Need-slice-aggregate-put-words
 slice-aggregate-put-words c = sym (length-take-le _ _ (c .before .before .count-stored .ensures .1))
 
 put-words-requires : tie.Need-put-words-requires
-put-words-requires c κs = omega (
-  arith,
-  put-end 66 (c .before .before .before .before .before .put-line .ensures)
-      (line-short (c .before .before .before .before .before .before .before .before .before .args .k)
-      (c .before .before .before .before .before .before .before .before .before .args .answer)),
-  length-take-le (c .before .before .count-stored .result)
-      (c .before .before .before .before .before .before .before .before .before .args .buffer .now)
-      (c .before .before .count-stored .ensures .1),
-)
+put-words-requires c κs = let entry = (c .before .before .before .before .before .before .before .before .before .args) in
+    omega (
+      arith,
+      put-end 66 (c .before .before .before .before .before .put-line .ensures) (line-short (entry .k) (entry .answer)),
+      length-take-le
+          (c .before .before .count-stored .result) (entry .buffer .now) (c .before .before .count-stored .ensures .1),
+    )
 
 same-length : tie.Need-same-length
 same-length c = search needs

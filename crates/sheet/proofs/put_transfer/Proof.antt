@@ -2,10 +2,9 @@
 use native.Mathlib.Omega.{arith}
 use borrow.Author.Needs.{needs}
 use Rattle.text.specs.Text.{bytes}
-use Rattle.text.proofs.Paste.{put-then}
+use Rattle.text.proofs.Paste.{put-then, after-field}
 use Rattle.text.proofs.Decimal.{length-ten}
 use Rattle.sheet.specs.Answers.{body}
-use Rattle.sheet.proofs.Room.{after-field}
 use Rattle.sheet.proofs.put_transfer.Statement.{statement}
 use Rattle.sheet.proofs.put_transfer.Tie as tie
 

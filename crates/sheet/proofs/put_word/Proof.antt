@@ -1,9 +1,8 @@
 -- `put_word` meets its contract: key and number, and LF, put one after the other.
 use native.Mathlib.Omega.{arith}
 use borrow.Author.Needs.{needs}
-use Rattle.sheet.proofs.Room.{after-field}
 use Rattle.sheet.specs.Answers.{wordLine}
-use Rattle.text.proofs.Paste.{put-then}
+use Rattle.text.proofs.Paste.{put-then, after-field}
 use Rattle.text.proofs.Decimal.{length-ten}
 use Rattle.text.specs.Text.{bytes}
 use Rattle.sheet.proofs.put_word.Statement.{statement}

@@ -27,11 +27,8 @@ shared-slice-read-put-word : tie.Need-shared-slice-read-put-word Inv-loop μ-loo
 shared-slice-read-put-word c = omega arith
 
 put-word-requires : tie.Need-put-word-requires Inv-loop μ-loop
-put-word-requires c κs = omega (
-  arith,
-  words-end (c .before .before .before .before .before .before .args .words .now) (c .before .before .before .loop .i)
-      (c .before .before .before .loop .inv .1) (c .before .before .before .loop .inv .2),
-)
+put-word-requires c κs = let loop = (c .before .before .before .loop) in
+    omega (arith, words-end (c .before .before .before .before .before .before .args .words .now) (loop .i) (loop .inv .1) (loop .inv .2))
 
 add-i : tie.Need-add-i Inv-loop μ-loop
 add-i c = omega arith

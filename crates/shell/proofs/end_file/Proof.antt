@@ -15,7 +15,7 @@ same-length-2 : tie.Need-same-length-2
 same-length-2 c = search needs
 
 returns : tie.Need-returns
-returns c = (search needs, failed ((c .before .before .make-room .result) .ok) ((c .if1 .taken)))
+returns c = (search needs, failed (c .before .before .make-room .result .ok) (c .if1 .taken))
 
 finish-requires : tie.Need-finish-requires
 finish-requires c κs = search needs
@@ -27,7 +27,9 @@ same-length-4 : tie.Need-same-length-4
 same-length-4 c = search needs
 
 returns-2 : tie.Need-returns-2
-returns-2 c = (search needs, λ e. ended ((c .before .before .before .before .before .before .before .before .before .make-room .ensures .1) (not-false ((c .before .before .before .before .before .before .before .before .before .make-room .result) .ok) ((c .before .before .before .before .before .before .before .if1 .left)))) ((c .before .before .before .before .finish .ensures .0)))
+returns-2 c = let room = (c .before .before .before .before .before .before .before .before .before .make-room) in
+    let if1 = (c .before .before .before .before .before .before .before .if1) in
+    (search needs, λ e. ended ((room .ensures .1) (not-false (room .result .ok) (if1 .left))) (c .before .before .before .before .finish .ensures .0))
 
 pub end-file-spec : {M : Type 1} → statement M
 end-file-spec =

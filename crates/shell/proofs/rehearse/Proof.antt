@@ -8,7 +8,7 @@ use Rattle.shell.proofs.rehearse.Statement.{statement}
 use Rattle.shell.proofs.rehearse.Tie as tie
 
 take-file-requires : tie.Need-take-file-requires
-take-file-requires c κs = (start-held ((c .before .before .before .before .before .before .before .before .before .before .pre .0)) ((c .before .before .before .before .before .before .before .before .before .before .pre .2)), (c .before .before .before .before .before .before .before .before .before .before .pre .1))
+take-file-requires c κs = let pre = (c .before .before .before .before .before .before .before .before .before .before .pre) in (start-held (pre .0) (pre .2), pre .1)
 
 same-length : tie.Need-same-length
 same-length c = search needs
@@ -23,7 +23,7 @@ same-length-4 : tie.Need-same-length-4
 same-length-4 c = search needs
 
 returns : tie.Need-returns
-returns c = failed ((c .before .before .before .before .before .before .before .before .before .before .take-file .result) .ok) ((c .if1 .taken))
+returns c = failed (c .before .before .before .before .before .before .before .before .before .before .take-file .result .ok) (c .if1 .taken)
 
 flush-requires : tie.Need-flush-requires
 flush-requires c κs = search needs
@@ -41,13 +41,28 @@ same-length-8 : tie.Need-same-length-8
 same-length-8 c = search needs
 
 returns-2 : tie.Need-returns-2
-returns-2 c = λ e. handed-as ((c .before .before .before .before .before .before .before .before .before .before .before .before .before .before .before .take-file .last) .1 .1 .1 .1 .1 .0) ((c .flush .ensures)) (handed-crate (start-is ((c .before .before .before .before .before .before .before .before .before .before .before .before .before .before .before .before .before .before .before .before .before .before .before .before .before .before .args .line) .now) ((c .before .before .before .before .before .before .before .before .before .before .before .before .before .before .before .before .before .before .before .before .before .before .before .before .before .before .args .memory) .now) ((c .before .before .before .before .before .before .before .before .before .before .before .before .before .before .before .before .before .before .before .before .before .before .before .before .before .before .args .out) .now) ((c .before .before .before .before .before .before .before .before .before .before .before .before .before .before .before .before .before .before .before .before .before .before .before .before .before .before .pre .2))) ((c .before .before .before .before .before .before .before .before .before .before .before .before .before .before .before .take-file .ensures .1) (not-false ((c .before .before .before .before .before .before .before .before .before .before .before .before .before .before .before .take-file .result) .ok) ((c .before .before .before .before .before .if1 .left)))) (omega arith))
+returns-2 c =
+    let far = c .before .before .before .before .before .before .before .before .before .before .before .before .before .before .before .before .before .before in
+    let entry = (far .before .before .before .before .before .before .before .before .args) in
+    let pre = (far .before .before .before .before .before .before .before .before .pre) in
+    let built = (c .before .before .before .before .before .before .before .before .before .before .before .before .before .before .before .take-file) in
+    λ e. handed-as (built .last .1 .1 .1 .1 .1 .0) (c .flush .ensures)
+    (handed-crate (start-is (entry .line .now) (entry .memory .now) (entry .out .now) (pre .2))
+    ((built .ensures .1) (not-false (built .result .ok) (c .before .before .before .before .before .if1 .left))) (omega arith))
 
 take-file-requires-2 : tie.Need-take-file-requires-2
-take-file-requires-2 c κs = (second-held ((c .before .before .before .before .before .before .before .before .before .before .before .before .before .before .before .before .before .take-file .ensures .0)), omega (arith, (c .before .before .before .before .before .before .before .before .before .before .before .before .before .before .before .before .before .before .before .before .before .before .before .before .before .before .before .before .pre .1)))
+take-file-requires-2 c κs =
+    let far = c .before .before .before .before .before .before .before .before .before .before .before .before .before .before .before .before .before .before in
+    let pre = (far .before .before .before .before .before .before .before .before .before .before .pre) in
+    let built = (c .before .before .before .before .before .before .before .before .before .before .before .before .before .before .before .before .before .take-file) in
+    (second-held (built .ensures .0), omega (arith, pre .1))
 
 same-length-9 : tie.Need-same-length-9
-same-length-9 c = omega (arith, (c .before .before .before .before .before .before .before .before .before .before .before .before .before .before .before .before .before .before .before .before .before .before .before .before .before .before .before .before .take-file .kept), (c .before .before .before .before .before .before .before .before .before .before .take-file2 .kept))
+same-length-9 c =
+    let far = c .before .before .before .before .before .before .before .before .before .before .before .before .before .before .before .before .before .before in
+    let built = (far .before .before .before .before .before .before .before .before .before .before .take-file) in
+    let ran = (c .before .before .before .before .before .before .before .before .before .before .take-file2) in
+    omega (arith, built .kept, ran .kept)
 
 same-length-10 : tie.Need-same-length-10
 same-length-10 c = search needs
@@ -59,25 +74,53 @@ same-length-12 : tie.Need-same-length-12
 same-length-12 c = search needs
 
 returns-3 : tie.Need-returns-3
-returns-3 c = failed ((c .before .before .before .before .before .before .before .before .before .before .take-file2 .result) .ok) ((c .if3 .taken))
+returns-3 c = failed (c .before .before .before .before .before .before .before .before .before .before .take-file2 .result .ok) (c .if3 .taken)
 
 flush-requires-2 : tie.Need-flush-requires-2
 flush-requires-2 c κs = search needs
 
 same-length-13 : tie.Need-same-length-13
-same-length-13 c = omega (arith, (c .before .before .before .before .before .before .before .before .before .before .before .before .before .before .before .before .before .before .before .before .before .before .before .before .before .before .before .before .before .before .take-file .kept), (c .before .before .before .before .before .before .before .before .before .before .before .before .take-file2 .kept))
+same-length-13 c =
+    let far = c .before .before .before .before .before .before .before .before .before .before .before .before .before .before .before .before .before .before in
+    let built = (far .before .before .before .before .before .before .before .before .before .before .before .before .take-file) in
+    let ran = (c .before .before .before .before .before .before .before .before .before .before .before .before .take-file2) in
+    omega (arith, built .kept, ran .kept)
 
 same-length-14 : tie.Need-same-length-14
-same-length-14 c = omega (arith, (c .before .before .before .before .before .before .before .before .before .before .before .before .before .before .before .before .before .before .before .before .before .before .before .before .before .before .before .before .before .before .take-file .kept), (c .before .before .before .before .before .before .before .before .before .before .before .before .take-file2 .kept))
+same-length-14 c =
+    let far = c .before .before .before .before .before .before .before .before .before .before .before .before .before .before .before .before .before .before in
+    let built = (far .before .before .before .before .before .before .before .before .before .before .before .before .take-file) in
+    let ran = (c .before .before .before .before .before .before .before .before .before .before .before .before .take-file2) in
+    omega (arith, built .kept, ran .kept)
 
 same-length-15 : tie.Need-same-length-15
-same-length-15 c = omega (arith, (c .before .before .before .before .before .before .before .before .before .before .before .before .before .before .before .before .before .before .before .before .before .before .before .before .before .before .before .before .before .before .take-file .kept), (c .before .before .before .before .before .before .before .before .before .before .before .before .take-file2 .kept))
+same-length-15 c =
+    let far = c .before .before .before .before .before .before .before .before .before .before .before .before .before .before .before .before .before .before in
+    let built = (far .before .before .before .before .before .before .before .before .before .before .before .before .take-file) in
+    let ran = (c .before .before .before .before .before .before .before .before .before .before .before .before .take-file2) in
+    omega (arith, built .kept, ran .kept)
 
 same-length-16 : tie.Need-same-length-16
-same-length-16 c = omega (arith, (c .before .before .before .before .before .before .before .before .before .before .before .before .before .before .before .before .before .before .before .before .before .before .before .before .before .before .before .before .before .before .take-file .kept), (c .before .before .before .before .before .before .before .before .before .before .before .before .take-file2 .kept))
+same-length-16 c =
+    let far = c .before .before .before .before .before .before .before .before .before .before .before .before .before .before .before .before .before .before in
+    let built = (far .before .before .before .before .before .before .before .before .before .before .before .before .take-file) in
+    let ran = (c .before .before .before .before .before .before .before .before .before .before .before .before .take-file2) in
+    omega (arith, built .kept, ran .kept)
 
 returns-4 : tie.Need-returns-4
-returns-4 c = λ e. handed-as ((c .before .before .before .before .before .before .before .before .before .before .before .before .take-file2 .last) .1 .1 .1 .1 .1 .0) ((c .flush2 .ensures)) (handed-both (start-is ((c .before .before .before .before .before .before .before .before .before .before .before .before .before .before .before .before .before .before .before .before .before .before .before .before .before .before .before .before .before .before .before .before .before .before .before .before .before .before .before .before .before .args .line) .now) ((c .before .before .before .before .before .before .before .before .before .before .before .before .before .before .before .before .before .before .before .before .before .before .before .before .before .before .before .before .before .before .before .before .before .before .before .before .before .before .before .before .before .args .memory) .now) ((c .before .before .before .before .before .before .before .before .before .before .before .before .before .before .before .before .before .before .before .before .before .before .before .before .before .before .before .before .before .before .before .before .before .before .before .before .before .before .before .before .before .args .out) .now) ((c .before .before .before .before .before .before .before .before .before .before .before .before .before .before .before .before .before .before .before .before .before .before .before .before .before .before .before .before .before .before .before .before .before .before .before .before .before .before .before .before .before .pre .2))) ((c .before .before .before .before .before .before .before .before .before .before .before .before .before .before .before .before .before .before .before .before .before .before .before .before .before .before .before .before .before .before .take-file .ensures .1) (not-false ((c .before .before .before .before .before .before .before .before .before .before .before .before .before .before .before .before .before .before .before .before .before .before .before .before .before .before .before .before .before .before .take-file .result) .ok) ((c .before .before .before .before .before .before .before .before .before .before .before .before .before .before .before .before .before .before .before .before .if1 .left)))) (omega arith) refl ((c .before .before .before .before .before .before .before .before .before .before .before .before .take-file2 .ensures .1) (not-false ((c .before .before .before .before .before .before .before .before .before .before .before .before .take-file2 .result) .ok) ((c .before .before .if3 .left)))))
+returns-4 c =
+    let far = c .before .before .before .before .before .before .before .before .before .before .before .before .before .before .before .before .before .before in
+    let farther = far .before .before .before .before .before .before .before .before .before .before .before .before .before .before .before .before .before .before in
+    let entry = (farther .before .before .before .before .before .args) in
+    let pre = (farther .before .before .before .before .before .pre) in
+    let built = (far .before .before .before .before .before .before .before .before .before .before .before .before .take-file) in
+    let if1 = (far .before .before .if1) in
+    let if2 = (c .before .before .before .before .before .before .before .before .before .before .before .before .before .before .before .before .before .if2) in
+    let ran = (c .before .before .before .before .before .before .before .before .before .before .before .before .take-file2) in
+    λ e. handed-as (ran .last .1 .1 .1 .1 .1 .0) (c .flush2 .ensures)
+    (handed-both (start-is (entry .line .now) (entry .memory .now) (entry .out .now) (pre .2))
+    ((built .ensures .1) (not-false (built .result .ok) (if1 .left))) (omega (arith, if2 .left)) refl
+    ((ran .ensures .1) (not-false (ran .result .ok) (c .before .before .if3 .left))))
 
 pub rehearse-spec : {M : Type 1} → statement M
 rehearse-spec =

@@ -53,7 +53,11 @@ returns-2 c = let read = (c .before .before .before .before .before .before .bef
     (read .ensures .0, failed (read .result .ok) (c .if2 .taken))
 
 end-file-requires-2 : tie.Need-end-file-requires-2
-end-file-requires-2 c κs = ((c .before .before .before .before .before .before .before .before .before .before .before .before .before .before .take-open .ensures .0), omega (arith, (c .before .before .before .before .before .before .before .before .before .before .before .before .before .before .before .before .before .before .before .before .before .before .before .before .before .before .before .before .pre .1), (c .before .before .before .before .before .before .before .before .before .before .before .before .before .before .take-open .kept)))
+end-file-requires-2 c κs =
+    let far = c .before .before .before .before .before .before .before .before .before .before .before .before .before .before .before .before .before .before in
+    let pre = (far .before .before .before .before .before .before .before .before .before .before .pre) in
+    let read = (c .before .before .before .before .before .before .before .before .before .before .before .before .before .before .take-open) in
+    (read .ensures .0, omega (arith, pre .1, read .kept))
 
 same-length-8 : tie.Need-same-length-8
 same-length-8 c = search needs
@@ -68,9 +72,12 @@ same-length-11 : tie.Need-same-length-11
 same-length-11 c = search needs
 
 returns-3 : tie.Need-returns-3
-returns-3 c = let read = (c .before .before .before .before .before .before .before .before .before .before .before .before .before .before .before .before .before .before .before .take-open) in
+returns-3 c =
+    let far = c .before .before .before .before .before .before .before .before .before .before .before .before .before .before .before .before .before .before in
+    let read = (far .before .take-open) in
+    let if2 = (c .before .before .before .before .before .before .before .before .if2) in
     let end = (c .before .before .before .before .end-file2) in
-    (end .ensures .0, λ e. closed-both (read .ensures .1 (not-false (read .result .ok) (c .before .before .before .before .before .before .before .before .if2 .left))) (end .ensures .1 e))
+    (end .ensures .0, λ e. closed-both (read .ensures .1 (not-false (read .result .ok) (if2 .left))) (end .ensures .1 e))
 
 pub take-file-spec : {M : Type 1} → statement M
 take-file-spec =

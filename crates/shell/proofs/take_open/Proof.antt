@@ -12,13 +12,26 @@ use Rattle.shell.proofs.take_open.Statement.{statement}
 use Rattle.shell.proofs.take_open.Tie as tie
 
 abbrev Inv-loop : tie.InvT-loop
-Inv-loop fd path text₀ line₀ memory₀ out₀ r₀ turns₀ text line memory out r turns = (length text ≡ length text₀) × (length line ≡ length line₀) × (length memory ≡ length memory₀) × (length out ≡ length out₀) × Held r line memory out × Reached (stateOf r₀ line₀ memory₀ out₀) (stateOf r line memory out)
+Inv-loop fd path text₀ line₀ memory₀ out₀ r₀ turns₀ text line memory out r turns =
+    (length text ≡ length text₀)
+    × (length line ≡ length line₀)
+    × (length memory ≡ length memory₀)
+    × (length out ≡ length out₀)
+    × Held r line memory out
+    × Reached (stateOf r₀ line₀ memory₀ out₀) (stateOf r line memory out)
 
 abbrev μ-loop : tie.MeasureT-loop
 μ-loop fd path text₀ line₀ memory₀ out₀ r₀ turns₀ text line memory out r turns = turns
 
 loop-holds : tie.Need-loop-holds Inv-loop μ-loop
-loop-holds c = (refl, refl, refl, refl, (c .before .before .before .before .before .pre .0), reached-none (stateOf ((c .before .before .before .before .before .args .s)) ((c .before .before .before .before .before .args .line) .now) ((c .before .before .before .before .before .args .memory) .now) ((c .before .before .before .before .before .args .out) .now)))
+loop-holds c = let entry = (c .before .before .before .before .before .args) in (
+  refl,
+  refl,
+  refl,
+  refl,
+  c .before .before .before .before .before .pre .0,
+  reached-none (stateOf (entry .s) (entry .line .now) (entry .memory .now) (entry .out .now)),
+)
 
 sub-turns : tie.Need-sub-turns Inv-loop μ-loop
 sub-turns c = omega arith
@@ -27,40 +40,74 @@ take-some-requires : tie.Need-take-some-requires Inv-loop μ-loop
 take-some-requires c κs = search needs
 
 same-length : tie.Need-same-length Inv-loop μ-loop
-same-length c = omega (arith, (c .before .before .before .before .before .before .before .before .before .before .before .before .before .before .before .before .before .loop .inv .0))
+same-length c =
+    let loop = (c .before .before .before .before .before .before .before .before .before .before .before .before .before .before .before .before .before .loop) in
+    omega (arith, loop .inv .0)
 
 same-length-2 : tie.Need-same-length-2 Inv-loop μ-loop
-same-length-2 c = omega (arith, (c .before .before .before .before .before .before .before .before .before .before .before .before .before .before .before .before .before .loop .inv .1))
+same-length-2 c =
+    let loop = (c .before .before .before .before .before .before .before .before .before .before .before .before .before .before .before .before .before .loop) in
+    omega (arith, loop .inv .1)
 
 same-length-3 : tie.Need-same-length-3 Inv-loop μ-loop
-same-length-3 c = omega (arith, (c .before .before .before .before .before .before .before .before .before .before .before .before .before .before .before .before .before .loop .inv .2))
+same-length-3 c =
+    let loop = (c .before .before .before .before .before .before .before .before .before .before .before .before .before .before .before .before .before .loop) in
+    omega (arith, loop .inv .2)
 
 same-length-4 : tie.Need-same-length-4 Inv-loop μ-loop
-same-length-4 c = omega (arith, (c .before .before .before .before .before .before .before .before .before .before .before .before .before .before .before .before .before .loop .inv .3))
+same-length-4 c =
+    let loop = (c .before .before .before .before .before .before .before .before .before .before .before .before .before .before .before .before .before .loop) in
+    omega (arith, loop .inv .3)
 
 returns : tie.Need-returns Inv-loop μ-loop
 returns c = ((c .before .before .before .before .before .before .before .before .before .before .before .take-some .ensures .0), λ e. absurd (true≢false (sym e)))
 
 same-length-5 : tie.Need-same-length-5 Inv-loop μ-loop
-same-length-5 c = omega (arith, (c .before .before .before .before .before .before .before .before .before .before .before .before .before .before .before .before .before .before .before .loop .inv .0))
+same-length-5 c =
+    let far = c .before .before .before .before .before .before .before .before .before .before .before .before .before .before .before .before .before .before in
+    let loop = (far .before .loop) in
+    omega (arith, loop .inv .0)
 
 same-length-6 : tie.Need-same-length-6 Inv-loop μ-loop
-same-length-6 c = omega (arith, (c .before .before .before .before .before .before .before .before .before .before .before .before .before .before .before .before .before .before .before .loop .inv .1))
+same-length-6 c =
+    let far = c .before .before .before .before .before .before .before .before .before .before .before .before .before .before .before .before .before .before in
+    let loop = (far .before .loop) in
+    omega (arith, loop .inv .1)
 
 same-length-7 : tie.Need-same-length-7 Inv-loop μ-loop
-same-length-7 c = omega (arith, (c .before .before .before .before .before .before .before .before .before .before .before .before .before .before .before .before .before .before .before .loop .inv .2))
+same-length-7 c =
+    let far = c .before .before .before .before .before .before .before .before .before .before .before .before .before .before .before .before .before .before in
+    let loop = (far .before .loop) in
+    omega (arith, loop .inv .2)
 
 same-length-8 : tie.Need-same-length-8 Inv-loop μ-loop
-same-length-8 c = omega (arith, (c .before .before .before .before .before .before .before .before .before .before .before .before .before .before .before .before .before .before .before .loop .inv .3))
+same-length-8 c =
+    let far = c .before .before .before .before .before .before .before .before .before .before .before .before .before .before .before .before .before .before in
+    let loop = (far .before .loop) in
+    omega (arith, loop .inv .3)
 
 returns-2 : tie.Need-returns-2 Inv-loop μ-loop
-returns-2 c = ((c .before .before .before .before .before .before .before .before .before .before .before .before .before .take-some .ensures .0), λ e. reached-both ((c .before .before .before .before .before .before .before .before .before .before .before .before .before .before .before .before .before .before .before .loop .inv .5)) ((c .before .before .before .before .before .before .before .before .before .before .before .before .before .take-some .ensures .1) (not-false ((c .before .before .before .before .before .before .before .before .before .before .before .before .before .take-some .result) .ok) ((c .before .before .if1 .left)))))
+returns-2 c =
+    let far = c .before .before .before .before .before .before .before .before .before .before .before .before .before .before .before .before .before .before in
+    let loop = (far .before .loop) in
+    let some = (c .before .before .before .before .before .before .before .before .before .before .before .before .before .take-some) in
+    (some .ensures .0, λ e. reached-both (loop .inv .5) ((some .ensures .1) (not-false (some .result .ok) (c .before .before .if1 .left))))
 
 loop-less : tie.Need-loop-less Inv-loop μ-loop
 loop-less c = omega arith
 
 loop-again : tie.Need-loop-again Inv-loop μ-loop
-loop-again c = (omega (arith, (c .before .before .before .before .before .before .before .before .before .before .before .before .before .before .before .before .before .before .before .loop .inv .0)), omega (arith, (c .before .before .before .before .before .before .before .before .before .before .before .before .before .before .before .before .before .before .before .loop .inv .1)), omega (arith, (c .before .before .before .before .before .before .before .before .before .before .before .before .before .before .before .before .before .before .before .loop .inv .2)), omega (arith, (c .before .before .before .before .before .before .before .before .before .before .before .before .before .before .before .before .before .before .before .loop .inv .3)), (c .before .before .before .before .before .before .before .before .before .before .before .before .before .take-some .ensures .0), reached-both ((c .before .before .before .before .before .before .before .before .before .before .before .before .before .before .before .before .before .before .before .loop .inv .5)) ((c .before .before .before .before .before .before .before .before .before .before .before .before .before .take-some .ensures .1) (not-false ((c .before .before .before .before .before .before .before .before .before .before .before .before .before .take-some .result) .ok) ((c .before .before .if1 .left)))))
+loop-again c =
+    let far = c .before .before .before .before .before .before .before .before .before .before .before .before .before .before .before .before .before .before in
+    let loop = (far .before .loop) in
+    let some = (c .before .before .before .before .before .before .before .before .before .before .before .before .before .take-some) in (
+      omega (arith, loop .inv .0),
+      omega (arith, loop .inv .1),
+      omega (arith, loop .inv .2),
+      omega (arith, loop .inv .3),
+      some .ensures .0,
+      reached-both (loop .inv .5) ((some .ensures .1) (not-false (some .result .ok) (c .before .before .if1 .left))),
+    )
 
 same-length-9 : tie.Need-same-length-9 Inv-loop μ-loop
 same-length-9 c = omega (arith, (c .before .loop .inv .0))

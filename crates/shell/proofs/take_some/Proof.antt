@@ -17,14 +17,16 @@ same-length : tie.Need-same-length
 same-length c = search needs
 
 returns : tie.Need-returns
-returns c = let entry = (c .before .before .before .before .before .before .before .before .before .before .before .args) in
-    ((c .before .before .before .before .before .before .before .before .before .before .before .pre .0), λ e. reached-none (stateOf (entry .s) (entry .line .now) (entry .memory .now) (entry .out .now)))
+returns c = let pre = (c .before .before .before .before .before .before .before .before .before .before .before .pre) in
+    let entry = (c .before .before .before .before .before .before .before .before .before .before .before .args) in
+    (pre .0, λ e. reached-none (stateOf (entry .s) (entry .line .now) (entry .memory .now) (entry .out .now)))
 
 slice-reshare-prefix-take-text : tie.Need-slice-reshare-prefix-take-text
 slice-reshare-prefix-take-text c = search needs
 
 slice-aggregate-take-text : tie.Need-slice-aggregate-take-text
-slice-aggregate-take-text c = let read = (c .before .before .before .before .read-some) in sym (length-take-le (read .result .count) (read .last .1 .1 .0) (read .ensures))
+slice-aggregate-take-text c = let read = (c .before .before .before .before .read-some) in
+    sym (length-take-le (read .result .count) (read .last .1 .1 .0) (read .ensures))
 
 take-text-requires : tie.Need-take-text-requires
 take-text-requires c κs = search needs
@@ -33,7 +35,9 @@ slice-reshare-prefix-goes-on : tie.Need-slice-reshare-prefix-goes-on
 slice-reshare-prefix-goes-on c = search needs
 
 slice-aggregate-goes-on : tie.Need-slice-aggregate-goes-on
-slice-aggregate-goes-on c = let read = (c .before .before .before .before .before .before .before .before .before .before .before .before .before .before .before .before .read-some) in sym (length-take-le (read .result .count) (read .last .1 .1 .0) (read .ensures))
+slice-aggregate-goes-on c =
+    let read = (c .before .before .before .before .before .before .before .before .before .before .before .before .before .before .before .before .read-some) in
+    sym (length-take-le (read .result .count) (read .last .1 .1 .0) (read .ensures))
 
 goes-on-requires : tie.Need-goes-on-requires
 goes-on-requires c κs = search needs

@@ -1,6 +1,6 @@
 -- `refused` meets its contract. The loop's invariant: so many of the first i steps are refused.
 -- Assumes nothing.
-use lib.ListN.{length, length-replicate}
+use lib.ListN.{length-replicate}
 use mathlib.Core.Path.{_≡_, sym, ap, _∙_}
 use Prim.Native.Nat.{ℕ, _+_, _-_, _≤_}
 use native.Mathlib.Omega.{arith}
@@ -26,9 +26,18 @@ refused-at-requires : tie.Need-refused-at-requires Inv-loop μ-loop
 refused-at-requires c κs = (omega arith, length-replicate {A = ℕ} 512 0)
 
 add-many : tie.Need-add-many Inv-loop μ-loop
-add-many c = let words = (c .before .before .before .before .before .args .words .now) in
-    let i = (c .before .before .before .loop .i) in
-    omega (arith, refused-few words i, refused-few words (i + 1), refused-more words i, (c .refused-at .ensures), (c .before .before .before .loop .inv .1), (c .before .before .before .before .before .good))
+add-many c = let loop = (c .before .before .before .loop) in
+    let words = c .before .before .before .before .before .args .words .now in
+    let i = loop .i in
+    omega (
+      arith,
+      refused-few words i,
+      refused-few words (i + 1),
+      refused-more words i,
+      c .refused-at .ensures,
+      loop .inv .1,
+      c .before .before .before .before .before .good,
+    )
 
 add-i : tie.Need-add-i Inv-loop μ-loop
 add-i c = omega (arith, (c .before .before .before .before .before .good))
@@ -37,8 +46,9 @@ loop-less : tie.Need-loop-less Inv-loop μ-loop
 loop-less c = omega arith
 
 loop-again : tie.Need-loop-again Inv-loop μ-loop
-loop-again c = let i = (c .before .before .before .loop .i) in
-    (omega arith, omega (arith, refused-more (c .before .before .before .before .before .args .words .now) i, (c .refused-at .ensures), (c .before .before .before .loop .inv .1)))
+loop-again c = let loop = (c .before .before .before .loop) in
+    let i = loop .i in
+    (omega arith, omega (arith, refused-more (c .before .before .before .before .before .args .words .now) i, c .refused-at .ensures, loop .inv .1))
 
 returns : tie.Need-returns Inv-loop μ-loop
 returns c = let words = (c .before .before .before .args .words .now) in

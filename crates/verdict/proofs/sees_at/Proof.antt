@@ -16,10 +16,10 @@ step-at-requires : tie.Need-step-at-requires
 step-at-requires c κs = search needs
 
 sees-requires : tie.Need-sees-requires
-sees-requires c κs = step-counts ((c .before .before .before .before .args .words) .now) ((c .before .before .before .before .args .i)) _ ((c .step-at .ensures))
+sees-requires c κs = step-counts (c .before .before .before .before .args .words .now) (c .before .before .before .before .args .i) _ (c .step-at .ensures)
 
 returns-2 : tie.Need-returns-2
-returns-2 c = (c .sees .ensures) ∙ ap (see ((c .before .before .before .before .before .args .k))) ((c .before .step-at .ensures))
+returns-2 c = (c .sees .ensures) ∙ ap (see (c .before .before .before .before .before .args .k)) (c .before .step-at .ensures)
 
 pub sees-at-spec : {M : Type 1} → statement M
 sees-at-spec =

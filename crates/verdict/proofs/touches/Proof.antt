@@ -9,7 +9,9 @@ reaches-requires : tie.Need-reaches-requires
 reaches-requires c κs = search needs
 
 returns : tie.Need-returns
-returns c = see-unreached ((c .before .before .before .args .step)) ((c .before .before .before .args .k)) ((c .before .reaches .result)) ((c .before .before .before .pre .1)) ((c .before .reaches .ensures)) (not-true ((c .before .reaches .result)) ((c .if1 .taken)))
+returns c = let entry = (c .before .before .before .args) in
+    let reaches = (c .before .reaches) in
+    see-unreached (entry .step) (entry .k) (reaches .result) (c .before .before .before .pre .1) (reaches .ensures) (not-true (reaches .result) (c .if1 .taken))
 
 judge-requires : tie.Need-judge-requires
 judge-requires c κs = search needs
@@ -21,10 +23,18 @@ enum-told-2 : tie.Need-enum-told-2
 enum-told-2 c = search needs
 
 returns-2 : tie.Need-returns-2
-returns-2 c = see-judged ((c .before .before .before .before .before .before .args .step)) ((c .before .before .before .before .before .before .args .k)) ((c .before .before .before .before .before .before .args .lent) .now) ((c .before .before .before .before .reaches .result)) _ _ ((c .before .before .before .before .before .before .pre .1)) ((c .before .before .before .before .before .before .pre .0)) ((c .before .before .before .before .reaches .ensures)) (not-false ((c .before .before .before .before .reaches .result)) ((c .before .before .before .if1 .left))) ((c .before .before .judge .ensures)) ((c .enum-told .given .1))
+returns-2 c = let entry = (c .before .before .before .before .before .before .args) in
+    let pre = (c .before .before .before .before .before .before .pre) in
+    let reaches = (c .before .before .before .before .reaches) in
+    see-judged (entry .step) (entry .k) (entry .lent .now) (reaches .result) _ _ (pre .1) (pre .0) (reaches .ensures)
+    (not-false (reaches .result) (c .before .before .before .if1 .left)) (c .before .before .judge .ensures) (c .enum-told .given .1)
 
 returns-3 : tie.Need-returns-3
-returns-3 c = see-judged ((c .before .before .before .before .before .before .args .step)) ((c .before .before .before .before .before .before .args .k)) ((c .before .before .before .before .before .before .args .lent) .now) ((c .before .before .before .before .reaches .result)) _ _ ((c .before .before .before .before .before .before .pre .1)) ((c .before .before .before .before .before .before .pre .0)) ((c .before .before .before .before .reaches .ensures)) (not-false ((c .before .before .before .before .reaches .result)) ((c .before .before .before .if1 .left))) ((c .before .before .judge .ensures)) ((c .enum-told2 .given .1))
+returns-3 c = let entry = (c .before .before .before .before .before .before .args) in
+    let pre = (c .before .before .before .before .before .before .pre) in
+    let reaches = (c .before .before .before .before .reaches) in
+    see-judged (entry .step) (entry .k) (entry .lent .now) (reaches .result) _ _ (pre .1) (pre .0) (reaches .ensures)
+    (not-false (reaches .result) (c .before .before .before .if1 .left)) (c .before .before .judge .ensures) (c .enum-told2 .given .1)
 
 pub touches-spec : {M : Type 1} → statement M
 touches-spec =

@@ -35,10 +35,14 @@ enum-told : tie.Need-enum-told
 enum-told c = search needs
 
 returns : tie.Need-returns
-returns c = see-step ((c .before .before .before .before .before .before .before .before .args .words) .now) ((c .before .before .before .before .before .before .before .before .args .i)) ((c .before .before .before .before .before .before .before .before .args .k)) _ _ _ ((c .before .before .before .before .read-step .ensures)) ((c .before .before .reading .given .1)) ((c .touches .ensures))
+returns c = let entry = (c .before .before .before .before .before .before .before .before .args) in
+    see-step (entry .words .now) (entry .i) (entry .k) _ _ _ (c .before .before .before .before .read-step .ensures) (c .before .before .reading .given .1)
+    (c .touches .ensures)
 
 returns-2 : tie.Need-returns-2
-returns-2 c = see-no-step ((c .before .before .before .before .before .before .args .words) .now) ((c .before .before .before .before .before .before .args .i)) ((c .before .before .before .before .before .before .args .k)) _ _ ((c .before .before .before .before .before .before .pre .2)) ((c .before .before .read-step .ensures)) ((c .enum-told .given .1))
+returns-2 c = let entry = (c .before .before .before .before .before .before .args) in
+    see-no-step (entry .words .now) (entry .i) (entry .k) _ _ (c .before .before .before .before .before .before .pre .2) (c .before .before .read-step .ensures)
+    (c .enum-told .given .1)
 
 pub touches-at-spec : {M : Type 1} → statement M
 touches-at-spec =

@@ -1,10 +1,10 @@
 -- `l_pattern` meets its contract. The loop's invariant: l is the pattern of stations 1 to n. The next station's bit is put above it (`pattern-or`).
 use Prim.Native.Nat.{ℕ, _-_, _*_, _%_, _^_, _≤_}
-use mathlib.Core.Path.{_≡_, refl, ap, ap₂, _∙_}
+use mathlib.Core.Path.{_≡_, sym, ap, ap₂, _∙_}
 use native.Mathlib.Omega.{arith}
 use borrow.Author.Needs.{needs}
 use lib.Bits.{bitOr}
-use Rattle.dataway.proofs.LamLaws.{pattern-or}
+use Rattle.dataway.proofs.LamLaws.{pattern-zero, pattern-or}
 use Rattle.dataway.specs.Lam.{patternTo}
 use Rattle.dataway.proofs.lam.l_pattern.Statement.{statement}
 use Rattle.dataway.proofs.lam.l_pattern.Tie as tie
@@ -16,8 +16,7 @@ abbrev μ-loop : tie.MeasureT-loop
 μ-loop memory l₀ n₀ l n = 23 - n
 
 loop-holds : tie.Need-loop-holds Inv-loop μ-loop
-unfolding patternTo
-loop-holds c = (omega arith, refl)
+loop-holds c = (omega arith, sym (pattern-zero (c .before .args .memory .now)))
 
 add-request : tie.Need-add-request Inv-loop μ-loop
 add-request c = omega arith

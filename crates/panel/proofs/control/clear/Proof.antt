@@ -43,19 +43,19 @@ loop-less : tie.Need-loop-less Inv-loop μ-loop
 loop-less c = omega arith
 
 loop-again : tie.Need-loop-again Inv-loop μ-loop
-loop-again c = (
-  omega arith,
-  cleared-more (c .before .before .before .before .before .before .before .before .args .b .now)
-      (c .before .before .before .before .before .loop .b) (c .before .before .command .last .0)
-      (c .before .before .before .before .before .loop .a) (c .before .before .command .result)
-      (c .before .before .before .before .before .loop .inv .1) (c .before .before .command .ensures),
-)
+loop-again c = let loop = (c .before .before .before .before .before .loop) in
+    let command = (c .before .before .command) in (
+      omega arith,
+      cleared-more (c .before .before .before .before .before .before .before .before .args .b .now) (loop .b) (command .last .0) (loop .a) (command .result)
+          (loop .inv .1) (command .ensures),
+    )
 
 same-length : tie.Need-same-length Inv-loop μ-loop
-same-length c = let few = count-few (c .before .before .before .before .args .b .now) (c .before .before .before .before .pre) in
+same-length c = let pre = (c .before .before .before .before .pre) in
+    let few = count-few (c .before .before .before .before .args .b .now) pre in
     ap length (c .before .loop .inv .1)
-    ∙ cleared-below-kept (c .before .loop .a) (c .before .before .before .before .args .b .now) (c .before .before .before .before .pre)
-    (omega arith) .fit .long ∙ sym (c .before .before .before .before .pre .long)
+    ∙ cleared-below-kept (c .before .loop .a) (c .before .before .before .before .args .b .now) pre (omega arith) .fit .long
+    ∙ sym (pre .long)
 
 returns : tie.Need-returns Inv-loop μ-loop
 returns c = let e : (c .before .loop .a) ≡ countOf (c .before .before .before .before .args .b .now) = omega arith in rw e at

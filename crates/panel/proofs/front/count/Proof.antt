@@ -16,7 +16,7 @@ slice-read-count24 : tie.Need-slice-read-count24
 slice-read-count24 c = search needs
 
 count24-requires : tie.Need-count24-requires
-count24-requires c κs = ((c .before .before .pre .0 .register) _ (c .before .before .pre .1 .0), (c .before .before .pre .1 .1))
+count24-requires c κs = let pre = (c .before .before .pre) in ((pre .0 .register) _ (pre .1 .0), pre .1 .1)
 
 mul-b : tie.Need-mul-b
 mul-b c = search needs

@@ -3,7 +3,7 @@ use mathlib.Core.Path.{sym, _∙_}
 use native.Mathlib.Omega.{arith}
 use borrow.Author.Tests.{not-true, not-false}
 use borrow.Author.Needs.{needs}
-use Rattle.rehearsal.proofs.ListLaws.{list-unfit, few-steps, few-answers, few-buffers, list-runs}
+use Rattle.rehearsal.proofs.ListLaws.{list-unfit, few-steps, few-answers, few-buffers, list-runs, list-numbered}
 use Rattle.dataway.proofs.CrateLaws.{crate-facts}
 use Rattle.rehearsal.proofs.list.run_list.Statement.{statement}
 use Rattle.rehearsal.proofs.list.run_list.Tie as tie
@@ -15,27 +15,27 @@ same-length : tie.Need-same-length
 same-length c = search needs
 
 returns : tie.Need-returns
-returns c = list-unfit _ _ _ _ _ (sym (c .before .is-fit-crate .ensures) ∙ not-true _ (c .if1 .taken))
+returns c = list-numbered _ _ _ _ _ _ _ _ _ (list-unfit _ _ _ _ _ (sym (c .before .is-fit-crate .ensures) ∙ not-true _ (c .if1 .taken)))
 
 same-length-2 : tie.Need-same-length-2
 same-length-2 c = search needs
 
 returns-2 : tie.Need-returns-2
-returns-2 c = few-steps _ _ _ _ _ (sym (c .before .before .is-fit-crate .ensures) ∙ not-false _ (c .before .if1 .left)) (c .if2 .taken)
+returns-2 c = list-numbered _ _ _ _ _ _ _ _ _ (few-steps _ _ _ _ _ (sym (c .before .before .is-fit-crate .ensures) ∙ not-false _ (c .before .if1 .left)) (c .if2 .taken))
 
 same-length-3 : tie.Need-same-length-3
 same-length-3 c = search needs
 
 returns-3 : tie.Need-returns-3
-returns-3 c = few-answers _ _ _ _ _ (sym (c .before .before .before .is-fit-crate .ensures) ∙ not-false _ (c .before .before .if1 .left))
-    (c .if3 .taken)
+returns-3 c = list-numbered _ _ _ _ _ _ _ _ _ (few-answers _ _ _ _ _ (sym (c .before .before .before .is-fit-crate .ensures) ∙ not-false _ (c .before .before .if1 .left))
+    (c .if3 .taken))
 
 same-length-4 : tie.Need-same-length-4
 same-length-4 c = search needs
 
 returns-4 : tie.Need-returns-4
-returns-4 c = few-buffers _ _ _ _ _
-    (sym (c .before .before .before .before .is-fit-crate .ensures) ∙ not-false _ (c .before .before .before .if1 .left)) (c .if4 .taken)
+returns-4 c = list-numbered _ _ _ _ _ _ _ _ _ (few-buffers _ _ _ _ _
+    (sym (c .before .before .before .before .is-fit-crate .ensures) ∙ not-false _ (c .before .before .before .if1 .left)) (c .if4 .taken))
 
 run-steps-requires : tie.Need-run-steps-requires
 run-steps-requires c κs = (
@@ -59,8 +59,11 @@ same-length-7 : tie.Need-same-length-7
 same-length-7 c = search needs
 
 returns-5 : tie.Need-returns-5
-returns-5 c = list-runs _ _ _ _ _
-    (sym (c .before .before .before .before .before .before .before .before .before .before .before .before .before .before .is-fit-crate .ensures) ∙ not-false _ (c .before .before .before .before .before .before .before .before .before .before .before .before .before .if1 .left)) (c .before .before .before .before .before .before .before .before .before .before .before .before .if2 .left) (c .before .before .before .before .before .before .before .before .before .before .before .if3 .left) (c .before .before .before .before .before .before .before .before .before .before .if4 .left) _ (c .before .before .before .before .before .before .run-steps .ensures)
+returns-5 c =
+    let b = c .before .before .before .before .before .before in
+    let u = b .before .before .before .before .before .before in
+    list-numbered _ _ _ _ _ _ _ _ _ (list-runs _ _ _ _ _ (sym (u .before .before .is-fit-crate .ensures) ∙ not-false _ (u .before .if1 .left))
+    (u .if2 .left) (b .before .before .before .before .before .if3 .left) (b .before .before .before .before .if4 .left) ∙ b .run-steps .ensures)
 
 pub run-list-spec : {M : Type 1} → statement M
 run-list-spec =

@@ -29,16 +29,16 @@ same-length-6 : tie.Need-same-length-6
 same-length-6 c = search needs
 
 returns : tie.Need-returns
-returns c = (
-  (c .before .before .before .before .before .before .before .before .before .before .before .before .before .before .before .before .run-list .ensures),
-  (
-    (c .before .before .before .before .before .before .run-list2 .ensures),
-    λ e f g p r.
-        pair-alike _ _ _ _ _ _ _ _ _ _ e _ _ _ _ _ _ _ _
-        (list-went _ _ _ _ _ _ _ _ _
-        (c .before .before .before .before .before .before .before .before .before .before .before .before .before .before .before .before .run-list .ensures) f) (list-went _ _ _ _ _ _ _ _ _ (c .before .before .before .before .before .before .run-list2 .ensures) g) p r,
-  ),
-)
+returns c =
+    let second = c .before .before .before .before .before .before .run-list2 .ensures .0 in
+    let first = c .before .before .before .before .before .before .before .before .before .before .before .before .before .before .before .before .run-list .ensures .0 in (
+      first,
+      (
+        second,
+        λ e f g p r.
+            pair-alike _ _ _ _ _ _ _ _ _ _ e _ _ _ _ _ _ _ _ (list-went _ _ _ _ _ _ _ _ _ first f) (list-went _ _ _ _ _ _ _ _ _ second g) p r,
+      ),
+    )
 
 pub run-pair-spec : {M : Type 1} → statement M
 run-pair-spec =

@@ -2,7 +2,7 @@
 use mathlib.Core.Path.{sym, ap, _∙_}
 use borrow.Author.Tests.{not-true, not-false}
 use borrow.Author.Needs.{needs}
-use Rattle.rehearsal.proofs.ListLaws.{step-unfit, step-fits}
+use Rattle.rehearsal.proofs.ListLaws.{step-unfit, step-fits, step-words}
 use Rattle.controller.specs.Steps.{order, doneOf}
 use Rattle.step.specs.declared.Reading.{Reading}
 use Rattle.dataway.proofs.CrateLaws.{crate-facts}
@@ -16,7 +16,7 @@ same-length : tie.Need-same-length
 same-length c = search needs
 
 returns : tie.Need-returns
-returns c = step-unfit _ _ (sym (c .before .is-fit-crate .ensures) ∙ not-true _ (c .if1 .taken))
+returns c = step-words _ _ _ _ _ (step-unfit _ _ (sym (c .before .is-fit-crate .ensures) ∙ not-true _ (c .if1 .taken)))
 
 read-line-requires : tie.Need-read-line-requires
 read-line-requires c κs = search needs
@@ -32,12 +32,12 @@ same-length-3 : tie.Need-same-length-3
 same-length-3 c = search needs
 
 returns-2 : tie.Need-returns-2
-returns-2 c = step-fits _ _ _
-    (sym (c .before .before .before .before .before .before .before .before .before .is-fit-crate .ensures)
-    ∙ not-false _ (c .before .before .before .before .before .before .before .before .if1 .left))
-    (ap (λ (r : Reading). doneOf
-    (c .before .before .before .before .before .before .before .before .before .before .before .before .before .before .args .memory .now)
-    (order r (c .before .before .before .before .before .before .before .before .before .before .before .before .before .before .args .buffer .now))) (sym (c .before .before .before .before .before .before .before .read-line .ensures .0)) ∙ (c .before .before .before .before .perform .ensures .0))
+returns-2 c =
+    let b = c .before .before .before .before .before .before .before in
+    let a = b .before .before .before .before .before .before .before .args in
+    step-words _ _ _ _ _ (step-fits _ _ _ (sym (b .before .before .is-fit-crate .ensures) ∙ not-false _ (b .before .if1 .left))
+    (ap (λ (r : Reading). doneOf (a .memory .now) (order r (a .buffer .now))) (sym (b .read-line .ensures .0))
+    ∙ (c .before .before .before .before .perform .ensures .0)))
 
 pub run-line-spec : {M : Type 1} → statement M
 run-line-spec =

@@ -16,7 +16,7 @@ same-length-2 c = search needs
 returns : tie.Need-returns
 returns c =
     let did = c .before .before .before .before .run-step .ensures in
-    (did, scan-told _ _ _ _ _ _ _ _ _ _ did)
+    (did .0, (did .1, scan-told _ _ _ _ _ _ _ _ _ _ (did .0)))
 
 pub run-scan-spec : {M : Type 1} → statement M
 run-scan-spec = tie.close (tie.spec run-step-requires same-length same-length-2 returns)

@@ -2,7 +2,7 @@
 use mathlib.Core.Path.{sym, _∙_}
 use borrow.Author.Tests.{not-true, not-false}
 use borrow.Author.Needs.{needs}
-use Rattle.rehearsal.proofs.ListLaws.{step-unfit, step-fits}
+use Rattle.rehearsal.proofs.ListLaws.{step-unfit, step-fits, step-words}
 use Rattle.dataway.proofs.CrateLaws.{crate-facts}
 use Rattle.rehearsal.proofs.single.run_step.Statement.{statement}
 use Rattle.rehearsal.proofs.single.run_step.Tie as tie
@@ -14,7 +14,7 @@ same-length : tie.Need-same-length
 same-length c = search needs
 
 returns : tie.Need-returns
-returns c = step-unfit _ _ (sym (c .before .is-fit-crate .ensures) ∙ not-true _ (c .if1 .taken))
+returns c = step-words _ _ _ _ _ (step-unfit _ _ (sym (c .before .is-fit-crate .ensures) ∙ not-true _ (c .if1 .taken)))
 
 perform-step-requires : tie.Need-perform-step-requires
 perform-step-requires c κs = crate-facts _
@@ -27,10 +27,10 @@ same-length-3 : tie.Need-same-length-3
 same-length-3 c = search needs
 
 returns-2 : tie.Need-returns-2
-returns-2 c = step-fits _ _ _
+returns-2 c = step-words _ _ _ _ _ (step-fits _ _ _
     (sym (c .before .before .before .before .before .before .before .before .is-fit-crate .ensures)
     ∙ not-false _ (c .before .before .before .before .before .before .before .if1 .left))
-    (c .before .before .before .before .perform-step .ensures .0)
+    (c .before .before .before .before .perform-step .ensures .0))
 
 pub run-step-spec : {M : Type 1} → statement M
 run-step-spec =

@@ -1,5 +1,5 @@
-use native.Mathlib.Omega.{arith}
 -- `files_named` meets its contract: the usual names are the first bytes of the buffers (`put-first`), or both arguments name a file.
+use native.Mathlib.Omega.{arith}
 use borrow.Author.Tests.{ltb-true}
 use mathlib.Core.Logic.{inl, inr}
 use mathlib.Core.Path.{sym}
@@ -56,7 +56,11 @@ same-length-6 c = search needs
 returns-4 : tie.Need-returns-4
 returns-4 c = let one = (c .before .before .before .before .before .before .before .take-name) in
     let two = (c .before .before .before .take-name2) in
-    λ e. record { first-within = one .ensures .within; second-within = two .ensures .within; names = inr (omega (arith, (c .if3 .left)), one .ensures, ltb-true 0 (two .result) e, two .ensures) }
+    λ e. record {
+      first-within = one .ensures .within;
+      second-within = two .ensures .within;
+      names = inr (omega (arith, c .if3 .left), one .ensures, ltb-true 0 (two .result) e, two .ensures);
+    }
 
 pub files-named-spec : {M : Type 1} → statement M
 files-named-spec =

@@ -20,7 +20,8 @@ returns : tie.Need-returns
 returns c = λ e. absurd (true≢false (sym e))
 
 take-parts-requires : tie.Need-take-parts-requires
-take-parts-requires c κs = (start-list (c .before .before .before .before .before .before .before .before .before .before .before .pre .0) (c .before .before .before .before .before .before .before .before .before .before .before .pre .1), listed-none)
+take-parts-requires c κs = let pre = (c .before .before .before .before .before .before .before .before .before .before .before .pre) in
+    (start-list (pre .0) (pre .1), listed-none)
 
 close-requires : tie.Need-close-requires
 close-requires c κs = search needs
@@ -52,7 +53,8 @@ same-length-6 c = search needs
 returns-3 : tie.Need-returns-3
 returns-3 c = let read = (c .before .before .before .before .before .before .before .before .before .before .before .before .before .before .take-parts) in
     let end = (c .before .before .finish) in
-    λ e. stored-all (read .ensures .1 (not-false (read .result .whole) (c .before .before .before .before .before .if2 .left))) (end .result) (read .last .1 .1 .1 .1 .0) (end .last .1 .1 .0) (end .ensures .1) (end .ensures .0)
+    λ e. stored-all (read .ensures .1 (not-false (read .result .whole) (c .before .before .before .before .before .if2 .left))) (end .result)
+    (read .last .1 .1 .1 .1 .0) (end .last .1 .1 .0) (end .ensures .1) (end .ensures .0)
 
 pub take-list-spec : {M : Type 1} → statement M
 take-list-spec =

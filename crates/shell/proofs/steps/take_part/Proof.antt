@@ -1,10 +1,8 @@
 -- `take_part` meets its contract: nothing was read, or all of what was read is taken and none of it is past the last line (`listed-more`).
 use Rattle.shell.proofs.ListedLaws.{listed-more}
 use native.Mathlib.Omega.{arith}
-use Prim.Native.Nat.{_<_}
-use mathlib.Core.Bool.{false}
-use mathlib.Core.Path.{_≡_, sym, _∙_}
-use lib.ListN.{take, length}
+use mathlib.Core.Path.{sym, _∙_}
+use lib.ListN.{take}
 use lib.Seq.{length-take-le}
 use borrow.Author.Needs.{needs}
 use Rattle.shell.proofs.steps.take_part.Statement.{statement}
@@ -26,7 +24,8 @@ slice-reshare-prefix-has-past : tie.Need-slice-reshare-prefix-has-past
 slice-reshare-prefix-has-past c = search needs
 
 slice-aggregate-has-past : tie.Need-slice-aggregate-has-past
-slice-aggregate-has-past c = sym (length-take-le (c .before .before .before .before .read-some .result .count) (c .before .before .before .before .read-some .last .1 .1 .0) (c .before .before .before .before .read-some .ensures))
+slice-aggregate-has-past c = let read = (c .before .before .before .before .read-some) in
+    sym (length-take-le (read .result .count) (read .last .1 .1 .0) (read .ensures))
 
 has-past-requires : tie.Need-has-past-requires
 has-past-requires c κs = search needs
@@ -47,7 +46,8 @@ slice-reshare-prefix-take-text : tie.Need-slice-reshare-prefix-take-text
 slice-reshare-prefix-take-text c = search needs
 
 slice-aggregate-take-text : tie.Need-slice-aggregate-take-text
-slice-aggregate-take-text c = sym (length-take-le (c .before .before .before .before .before .before .before .read-some .result .count) (c .before .before .before .before .before .before .before .read-some .last .1 .1 .0) (c .before .before .before .before .before .before .before .read-some .ensures))
+slice-aggregate-take-text c = let read = (c .before .before .before .before .before .before .before .read-some) in
+    sym (length-take-le (read .result .count) (read .last .1 .1 .0) (read .ensures))
 
 take-text-requires : tie.Need-take-text-requires
 take-text-requires c κs = search needs
@@ -62,10 +62,18 @@ same-length-5 : tie.Need-same-length-5
 same-length-5 c = search needs
 
 returns-3 : tie.Need-returns-3
-returns-3 c = let n = (c .before .before .before .before .before .before .before .before .before .before .before .before .before .before .read-some .result .count) in
-    let text = (c .before .before .before .before .before .before .before .before .before .before .before .before .before .before .read-some .last .1 .1 .0) in
-    let long = length-take-le n text (c .before .before .before .before .before .before .before .before .before .before .before .before .before .before .read-some .ensures) in
-    ((c .before .before .before .before .take-text .ensures .1), λ e. listed-more (take n text) (c .before .before .before .before .before .before .before .before .before .before .before .before .before .before .before .before .before .before .before .before .before .pre .1) (omega (arith, long, (c .before .before .before .before .before .before .before .before .before .before .before .if1 .left))) (sym (c .before .before .before .before .before .before .before .before .before .has-past .ensures) ∙ (c .before .before .before .before .before .before .before .before .if2 .left)) (c .before .before .before .before .take-text .ensures .0))
+returns-3 c =
+    let far = c .before .before .before .before .before .before .before .before .before .before .before .before .before .before .before .before .before .before in
+    let pre = (far .before .before .before .pre) in
+    let read = (c .before .before .before .before .before .before .before .before .before .before .before .before .before .before .read-some) in
+    let if1 = (c .before .before .before .before .before .before .before .before .before .before .before .if1) in
+    let has-past = (c .before .before .before .before .before .before .before .before .before .has-past) in
+    let if2 = (c .before .before .before .before .before .before .before .before .if2) in
+    let taken = (c .before .before .before .before .take-text) in
+    let n = (read .result .count) in
+    let text = (read .last .1 .1 .0) in
+    let long = length-take-le n text (read .ensures) in
+    (taken .ensures .1, λ e. listed-more (take n text) (pre .1) (omega (arith, long, if1 .left)) (sym (has-past .ensures) ∙ (if2 .left)) (taken .ensures .0))
 
 pub take-part-spec : {M : Type 1} → statement M
 take-part-spec =

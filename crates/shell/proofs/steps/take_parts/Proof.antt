@@ -1,6 +1,5 @@
 -- `take_parts` meets its contract: each turn takes some bytes more, and the turns run down.
 use native.Mathlib.Omega.{arith}
-use borrow.Author.Needs.{needs}
 use borrow.Author.Tests.{not-false}
 use mathlib.Core.Bool.{true≢false}
 use mathlib.Core.Path.{_≡_, refl, sym}
@@ -11,7 +10,12 @@ use Rattle.shell.proofs.steps.take_parts.Statement.{statement}
 use Rattle.shell.proofs.steps.take_parts.Tie as tie
 
 abbrev Inv-loop : tie.InvT-loop
-Inv-loop fd path text₀ line₀ words₀ r₀ turns₀ text line words r turns = (length text ≡ length text₀) × (length line ≡ length line₀) × (length words ≡ length words₀) × Held r line words × Listed (stateOf r line words)
+Inv-loop fd path text₀ line₀ words₀ r₀ turns₀ text line words r turns =
+    (length text ≡ length text₀)
+    × (length line ≡ length line₀)
+    × (length words ≡ length words₀)
+    × Held r line words
+    × Listed (stateOf r line words)
 
 abbrev μ-loop : tie.MeasureT-loop
 μ-loop fd path text₀ line₀ words₀ r₀ turns₀ text line words r turns = turns
@@ -38,24 +42,36 @@ returns : tie.Need-returns Inv-loop μ-loop
 returns c = ((c .before .before .before .before .before .before .before .before .before .take-part .ensures .0), λ e. absurd (true≢false (sym e)))
 
 same-length-4 : tie.Need-same-length-4 Inv-loop μ-loop
-same-length-4 c = omega (arith, (c .before .before .before .before .before .before .before .before .before .before .before .before .before .before .before .before .loop .inv .0))
+same-length-4 c =
+    let loop = (c .before .before .before .before .before .before .before .before .before .before .before .before .before .before .before .before .loop) in
+    omega (arith, loop .inv .0)
 
 same-length-5 : tie.Need-same-length-5 Inv-loop μ-loop
-same-length-5 c = omega (arith, (c .before .before .before .before .before .before .before .before .before .before .before .before .before .before .before .before .loop .inv .1))
+same-length-5 c =
+    let loop = (c .before .before .before .before .before .before .before .before .before .before .before .before .before .before .before .before .loop) in
+    omega (arith, loop .inv .1)
 
 same-length-6 : tie.Need-same-length-6 Inv-loop μ-loop
-same-length-6 c = omega (arith, (c .before .before .before .before .before .before .before .before .before .before .before .before .before .before .before .before .loop .inv .2))
+same-length-6 c =
+    let loop = (c .before .before .before .before .before .before .before .before .before .before .before .before .before .before .before .before .loop) in
+    omega (arith, loop .inv .2)
 
 returns-2 : tie.Need-returns-2 Inv-loop μ-loop
-returns-2 c = ((c .before .before .before .before .before .before .before .before .before .before .before .take-part .ensures .0), λ e. (c .before .before .before .before .before .before .before .before .before .before .before .take-part .ensures .1) (not-false (c .before .before .before .before .before .before .before .before .before .before .before .take-part .result .whole) (c .before .before .if1 .left)))
+returns-2 c = let part = (c .before .before .before .before .before .before .before .before .before .before .before .take-part) in
+    (part .ensures .0, λ e. (part .ensures .1) (not-false (part .result .whole) (c .before .before .if1 .left)))
 
 loop-less : tie.Need-loop-less Inv-loop μ-loop
 loop-less c = omega arith
 
 loop-again : tie.Need-loop-again Inv-loop μ-loop
 loop-again c = let loop = (c .before .before .before .before .before .before .before .before .before .before .before .before .before .before .before .before .loop) in
-    let part = (c .before .before .before .before .before .before .before .before .before .before .before .take-part) in
-    (omega (arith, loop .inv .0), omega (arith, loop .inv .1), omega (arith, loop .inv .2), part .ensures .0, part .ensures .1 (not-false (part .result .whole) (c .before .before .if1 .left)))
+    let part = (c .before .before .before .before .before .before .before .before .before .before .before .take-part) in (
+      omega (arith, loop .inv .0),
+      omega (arith, loop .inv .1),
+      omega (arith, loop .inv .2),
+      part .ensures .0,
+      part .ensures .1 (not-false (part .result .whole) (c .before .before .if1 .left)),
+    )
 
 same-length-7 : tie.Need-same-length-7 Inv-loop μ-loop
 same-length-7 c = omega (arith, (c .before .loop .inv .0))

@@ -31,10 +31,10 @@ loop-less : tie.Need-loop-less Inv-loop μ-loop
 loop-less c = omega arith
 
 loop-again : tie.Need-loop-again Inv-loop μ-loop
-loop-again c = (
+loop-again c = let loop = (c .before .loop) in (
   omega arith,
-  simp length-set (c .before .loop .inv .1),
-  rw (c .before .loop .inv .2) (fill-more (c .before .loop .i) 0 (c .before .before .args .s .now) (omega arith)),
+  simp length-set (loop .inv .1),
+  rw (loop .inv .2) (fill-more (loop .i) 0 (c .before .before .args .s .now) (omega arith)),
 )
 
 same-length : tie.Need-same-length Inv-loop μ-loop

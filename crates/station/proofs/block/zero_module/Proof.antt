@@ -36,13 +36,11 @@ same-length : tie.Need-same-length
 same-length c = (c .before .b .given .1) ∙ simp length-set
 
 returns : tie.Need-returns
-returns c = let b = (c .before .before .before .before .before .args .b .now) in
-    tail-zeroed (withFill
-    (withHead (withMask (withStatus b (c .before .before .before .before .before .args .status))
-    (c .before .before .before .before .before .args .mask)) 0) 0) (c .before .before .zero .last .0)
+returns c = let entry = (c .before .before .before .before .before .args) in
+    let b = entry .b .now in
+    tail-zeroed (withFill (withHead (withMask (withStatus b (entry .status)) (entry .mask)) 0) 0) (c .before .before .zero .last .0)
     (simp length-set (c .before .before .before .before .before .pre)) (c .before .before .zero .ensures)
-    ∙ header-zeroed b (c .before .before .before .before .before .args .status) (c .before .before .before .before .before .args .mask)
-    (c .before .before .before .before .before .pre)
+    ∙ header-zeroed b (entry .status) (entry .mask) (c .before .before .before .before .before .pre)
 
 pub zero-module-spec : {M : Type 1} → statement M
 zero-module-spec =

@@ -2,8 +2,8 @@
 -- Assumes nothing.
 use borrow.Author.Tests.{le-leb, lt-leb}
 use borrow.Author.Needs.{needs}
-use Rattle.verdict.proofs.reaches.Statement.{statement}
-use Rattle.verdict.proofs.reaches.Tie as tie
+use Rattle.step.proofs.reaches.Statement.{statement}
+use Rattle.step.proofs.reaches.Tie as tie
 
 enum-known-step : tie.Need-enum-known-step
 enum-known-step c = search needs
