@@ -1,5 +1,6 @@
 -- The laws of `lines`.
 pub mod Parts
+pub mod LfLaws
 pub mod CuttingLaws
 pub mod Counting
 pub mod Whole

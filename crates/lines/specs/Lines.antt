@@ -1,7 +1,7 @@
--- The lines of a file (01, 'Crate and run files').
+-- The lines of a file (RULES 7.5, 7.8).
 use Prim.Native.Nat.{ℕ, _≤_, _<_}
 use mathlib.Core.Path.{_≡_}
-use mathlib.Core.Bool.{cond}
+use mathlib.Core.Bool.{Bool, false, cond, _||_}
 use mathlib.Core.List.{List, [], _∷_, _++_}
 use lib.Dec.{eqb}
 use lib.ListN.{length, getD, take}
@@ -22,6 +22,11 @@ linesOf file = take 99999 (cut [] file)
 -- none of the bytes is LF
 abbrev pub NoLf : List ℕ → Type 0
 NoLf l = (k : ℕ) → k < length l → getD l k 0 ≡ 10 → ⊥
+
+-- a byte of them is LF
+abbrev pub hasLf : List ℕ → Bool
+hasLf [] = false
+hasLf (b ∷ t) = eqb b 10 || hasLf t
 
 -- r is the index of the first LF from index f on, or the length
 pub record NextLf (l : List ℕ) (f r : ℕ) : Type 0 where

@@ -1,11 +1,12 @@
 // Bytes cut into lines: where the next line ends, and the first bytes of a line kept in a buffer. What is done with a line is its reader's: the language has no
 // function that takes a function, so each reader has its own loop over these.
 ghost use mathlib.Core.Path.{_≡_};
-ghost use mathlib.Core.List.{List, [], _++_};
-ghost use Prim.Native.Nat.{ℕ, _-_, _≤_, min};
+ghost use mathlib.Core.List.{[], _++_};
+ghost use mathlib.Core.Bool.{true, cond};
+ghost use Prim.Native.Nat.{_+_, _-_, _≤_, _<_, min};
 ghost use lib.Dec.{ltb};
-ghost use lib.ListN.{length, take};
-ghost use Rattle.lines.specs.Lines.{cut, NextLf};
+ghost use lib.ListN.{length, take, drop};
+ghost use Rattle.lines.specs.Lines.{cut, hasLf, NextLf};
 
 // Lines of a file that are read.
 pub const LINES: u32 = 99999;
@@ -21,20 +22,54 @@ pub fn least(a: usize, b: usize) -> usize
     if a < b { a } else { b }
 }
 
-// The index of the next LF of text from index from on, or the length of text where there is none. Eight bytes a turn, since a loop of fixed
-// length is compiled to no loop.
+// The n bytes of text from index from on have an LF. All of them are looked at, so that the compiler looks at many at once.
+fn has_lf(text: &[u8], from: usize, n: usize) -> bool
+    requires { ⌜ from + n ≤ length (now text) ⌝ }
+    ensures { λ r. ⌜ r ≡ hasLf (take n (drop from (now (text .entry)))) ⌝ }
+{
+    let mut found = false;
+    for k in 0..n {
+        found = found | (text[from + k] == 10);
+    }
+    found
+}
+
+// The index of the n bytes of text from index from on where they have an LF, else of those after them.
+fn half(text: &[u8], from: usize, n: usize) -> usize
+    requires { ⌜ from + n ≤ length (now text) ⌝ }
+    ensures { λ r. ⌜ r ≤ from + n ⌝ }
+    ensures { λ r. ⌜ r ≡ cond (hasLf (take n (drop from (now (text .entry))))) from (from + n) ⌝ }
+{
+    if has_lf(text, from, n) {
+        from
+    } else {
+        from + n
+    }
+}
+
+// The index of the first LF among the sixteen bytes of text from index from on, which have one: by halves.
+fn first_lf(text: &[u8], from: usize) -> usize
+    requires { ⌜ from + 16 ≤ length (now text) ⌝ }
+    requires { ⌜ hasLf (take 16 (drop from (now text))) ≡ true ⌝ }
+    ensures { λ r. ⌜ (r < from + 16) × NextLf (now (text .entry)) from r ⌝ }
+{
+    let eight = half(text, from, 8);
+    let four = half(text, eight, 4);
+    let two = half(text, four, 2);
+    half(text, two, 1)
+}
+
+// The index of the next LF of text from index from on, or the length of text where there is none.
 pub fn find_lf(text: &[u8], from: usize) -> usize
     requires { ⌜ from ≤ length (now text) ⌝ }
     ensures { λ r. ⌜ NextLf (now (text .entry)) from r ⌝ }
 {
     let mut i = from;
-    while text.len() - i >= 8 {
-        for k in 0..8 {
-            if text[i + k] == 10 {
-                return i + k;
-            }
+    while text.len() - i >= 16 {
+        if has_lf(text, i, 16) {
+            return first_lf(text, i);
         }
-        i += 8;
+        i += 16;
     }
     while i < text.len() {
         if text[i] == 10 {

@@ -10,6 +10,7 @@ use dataway::lam::LamReading;
 use lines::least;
 use station::Reply;
 use step::Refusal;
+use text::put_behind;
 use text::put_bytes;
 use text::put_field;
 use transfer::Transfer;
@@ -77,7 +78,8 @@ fn put_word(out: &mut [u8], at: usize, w: u32) -> usize
     requires { ⌜ at + 16 ≤ length (now out) ⌝ }
     ensures { λ r. ⌜ Put (now (out .entry)) at (wordLine w) (now (out .exit)) r ⌝ }
 {
-    let next = put_field(out, at, b"word=", w);
+    let next = put_behind(out, at, 5, w);
+    put_bytes(out, at, b"word=");
     put_bytes(out, next, b"\n")
 }
 

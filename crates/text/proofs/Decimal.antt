@@ -1,8 +1,9 @@
--- Laws of `decimal`: its last digit taken off, its length, and that the digit loop writes it.
-use Prim.Native.Nat.{ℕ, zero, suc, _+_, _*_, _/_, _%_, _^_, _≤_, _<_}
+-- Laws of `decimal`: its last digit taken off, its length, that the digit loop writes it, and that it ends any more digits.
+use Prim.Native.Nat.{ℕ, zero, suc, _+_, _-_, _*_, _/_, _%_, _^_, _≤_, _<_}
 use mathlib.Core.Path.{_≡_, refl, sym, _∙_, ap}
 use mathlib.Core.Bool.{Bool, true, false, cond}
-use mathlib.Core.List.{List, [], _∷_, _++_}
+use mathlib.Core.List.{List, [], _∷_, _++_, append-nil, append-assoc}
+use native.Mathlib.Nat.{add-zero, add-suc, div-one, div-div-eq-div-mul, pow-succ'}
 use native.Mathlib.Numerals.{add-one}
 use native.Mathlib.Omega.{arith}
 use borrow.Author.Tests.{ltb-true, lt-ltb, le-ltb}
@@ -93,3 +94,17 @@ digits-up-to (suc k) n h = go (ltb n 10) refl (digits-up-to k (n / 10) (omega ar
 pub decimal-digits : (n : ℕ) → n < 2 ^ 32 → decimal n ≡ digits (length (decimal n)) n
 unfolding decimal
 decimal-digits n h = digits-up-to 9 n (omega arith)
+
+-- more digits are those of the number that stands before the last k, and the last k
+digits-join : (j k n : ℕ) → digits (j + k) n ≡ digits j (n / 10 ^ k) ++ digits k n
+digits-join j zero n = rw (add-zero, div-one, append-nil)
+digits-join j (suc k) n =
+    let e : n / 10 / 10 ^ k ≡ n / 10 ^ suc k = div-div-eq-div-mul n 10 (10 ^ k) ∙ ap (λ (m : ℕ). n / m) (sym (pow-succ' 10 k)) in
+    rw (add-suc, digits-join j k (n / 10), e, append-assoc)
+
+-- a number's text is the last of any more of its digits
+pub decimal-last : (j n : ℕ) → n < 2 ^ 32 → length (decimal n) ≤ j → digits j n ≡ digits (j - length (decimal n)) (n / 10 ^ length (decimal n)) ++ decimal n
+decimal-last j n h l =
+    let k = length (decimal n) in
+    let e : j ≡ j - k + k = omega arith in
+    ap (λ (i : ℕ). digits i n) e ∙ digits-join (j - k) k n ∙ ap (λ (t : List ℕ). digits (j - k) (n / 10 ^ k) ++ t) (sym (decimal-digits n h))

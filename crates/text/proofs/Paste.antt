@@ -1,15 +1,16 @@
--- Laws of `pasted` and `Put`: a store is the paste of one byte, two pastes in a row are one, and where a field ends.
-use Prim.Native.Nat.{ℕ, suc, _+_, _≤_, _<_}
-use mathlib.Core.Path.{_≡_, sym, _∙_, ap}
+-- Laws of `pasted`, `Put` and `Behind`: a store is the paste of one byte, two pastes in a row are one, where a field ends, and a key that is put last.
+use Prim.Native.Nat.{ℕ, suc, _+_, _-_, _/_, _^_, _≤_, _<_}
+use mathlib.Core.Path.{_≡_, refl, sym, _∙_, ap}
 use mathlib.Core.List.{List, [], _∷_, _++_, append-nil, append-assoc}
 use native.Mathlib.Nat.{add-zero}
 use native.Mathlib.Numerals.{add-one}
 use native.Mathlib.Omega.{arith}
 use lib.ListN.{length, take, drop, set, length-append, length-drop, take-append-drop}
-use lib.Seq.{append-snoc, length-take-le, set-split, take-at, take-append-le, take-length, drop-at, drop-drop, take-set-le}
-use Rattle.text.specs.Paste.{pasted, Put}
+use lib.Seq.{append-snoc, length-take-le, set-split, take-add, take-at, take-append-le, take-length, drop-at, drop-drop, take-set-le}
+use Rattle.text.specs.Digits.{digits}
+use Rattle.text.specs.Paste.{pasted, Put, Behind}
 use Rattle.text.specs.Text.{decimal}
-use Rattle.text.proofs.Decimal.{field-short}
+use Rattle.text.proofs.Decimal.{decimal-one, field-short, length-digits, decimal-last}
 
 pub paste-nothing : (o : List ℕ) (at : ℕ) → pasted o at [] ≡ o
 unfolding pasted
@@ -23,6 +24,10 @@ length-pasted o at text h = simp (length-append, length-take-le at o (omega arit
 pub paste-one : (o : List ℕ) (i x : ℕ) → i < length o → pasted o i (x ∷ []) ≡ set o i x
 unfolding pasted
 paste-one o i x h = rw (add-one i, append-snoc (take i o) x (drop (suc i) o)) (sym (set-split o i x h))
+
+-- and the store of a digit the putting of a number below 10
+pub put-digit : (o : List ℕ) (i n : ℕ) → n < 10 → i < length o → Put o i (decimal n) (set o i (48 + n)) (i + 1)
+put-digit o i n small h = rw (decimal-one n small) (record { buffer = sym (paste-one o i (48 + n) h); place = refl })
 
 -- a buffer up to the end of text that was pasted, and from there on
 module _ (o : List ℕ) (at : ℕ) (a : List ℕ) (h : at ≤ length o) where
@@ -90,3 +95,56 @@ put-first {o} {t} {p} {next} f =
 pub put-within : {o t p : List ℕ} {next : ℕ} → Put o 0 t p next → next ≤ length p
 unfolding pasted
 put-within {o} {t} f = omega (arith, ap length (f .buffer) ∙ length-append t (drop (0 + length t) o), f .place)
+
+-- ---- text behind a gap
+-- a paste further on is one that starts with the bytes that were there
+paste-later : (o : List ℕ) (at m : ℕ) (t : List ℕ) → at + m ≤ length o → pasted o (at + m) t ≡ pasted o at (take m (drop at o) ++ t)
+unfolding pasted
+paste-later o at m t h =
+    let w : length (take m (drop at o)) ≡ m = length-take-le m (drop at o) (rw length-drop (omega arith)) in
+    let r : at + m + length t ≡ at + length (take m (drop at o) ++ t) = rw (length-append, w) (omega arith) in
+    rw (take-add, r) (simp append-assoc)
+
+-- text that follows other text where the gap ends
+put-behind : {o p t : List ℕ} {at gap next : ℕ} (m : ℕ) (lead : List ℕ) → p ≡ pasted o (at + m) (lead ++ t) → next ≡ at + gap + length t
+    → m + length lead ≡ gap → at + m ≤ length o → Behind o at gap t p next
+put-behind {o} {p} {t} {at} {gap} {next} m lead e n w h =
+    let free = take m (drop at o) ++ lead in
+    let r : length (take m (drop at o)) ≡ m = length-take-le m (drop at o) (rw length-drop (omega arith)) in
+    let wide : length free ≡ gap = rw (length-append, r) w in
+    let joined = append-assoc (take m (drop at o)) lead t in
+    record {
+      free = free;
+      width = wide;
+      put = record { buffer = e ∙ paste-later o at m (lead ++ t) h ∙ ap (pasted o at) (sym joined); place = n ∙ rw (length-append, wide) (omega arith) };
+    }
+
+-- w digits that end where the number does: those before its own lie in the gap
+pub digits-behind : {o p : List ℕ} {at gap n next : ℕ} (w start : ℕ) → p ≡ pasted o start (digits w n) → n < 2 ^ 32 → length (decimal n) ≤ w → at ≤ start
+    → start + w ≡ at + gap + length (decimal n) → next ≡ start + w → next ≤ length o → Behind o at gap (decimal n) p next
+digits-behind {o} {p} {at} {gap} {n} {next} w start e few short from end place room =
+    let k = length (decimal n) in
+    let long : length (digits (w - k) (n / 10 ^ k)) ≡ w - k = length-digits (w - k) (n / 10 ^ k) in
+    let there : start ≡ at + (start - at) = omega arith in
+    let text = e ∙ ap (λ (i : ℕ). pasted o i (digits w n)) there ∙ ap (pasted o (at + (start - at))) (decimal-last w n few short) in
+    put-behind (start - at) (digits (w - k) (n / 10 ^ k)) text (omega arith) (omega arith) (omega arith)
+
+-- other text over the gap
+over : (o : List ℕ) (at : ℕ) (free key t : List ℕ) → length key ≡ length free → at ≤ length o
+    → pasted (pasted o at (free ++ t)) at key ≡ pasted o at (key ++ t)
+unfolding pasted
+over o at free key t e h =
+    let rest = drop (at + length (free ++ t)) o in
+    let ahead = take-at (take at o) (free ++ (t ++ rest)) at (length-take-le at o h) in
+    let behind = drop-at (take at o ++ free) (t ++ rest) (at + length key) (front o at free h ∙ ap (λ (n : ℕ). at + n) (sym e)) in
+    let r : length (free ++ t) ≡ length (key ++ t) = simp (length-append, e) in
+    simp append-assoc (rw (ahead, simp append-assoc at behind, r))
+
+-- a key put over the gap
+pub behind-key : {o p q t key : List ℕ} {at gap next j : ℕ} → Behind o at gap t p next → Put p at key q j → length key ≡ gap → at ≤ length o
+    → Put o at (key ++ t) q next
+behind-key {o} {p} {q} {t} {key} {at} {gap} {next} {j} f g e h =
+    record {
+      buffer = g .buffer ∙ rw (f .put .buffer) (over o at (f .free) key t (e ∙ sym (f .width)) h);
+      place = f .put .place ∙ simp (length-append, e, f .width);
+    }

@@ -6,3 +6,12 @@ use mathlib.Core.List.{List, [], _∷_, _++_}
 abbrev pub digits : ℕ → ℕ → List ℕ
 digits zero n = []
 digits (suc k) n = digits k (n / 10) ++ ((48 + n % 10) ∷ [])
+
+-- the k lowest bytes of d, the lowest first
+abbrev pub unpacked : ℕ → ℕ → List ℕ
+unpacked zero d = []
+unpacked (suc k) d = d % 256 ∷ unpacked k (d / 256)
+
+-- eight times the digit 0, so packed
+abbrev pub zeros : ℕ
+zeros = 3472328296227680304

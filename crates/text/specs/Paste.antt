@@ -12,3 +12,9 @@ pasted before at text = take at before ++ text ++ drop (at + length text) before
 pub record Put (before : List ℕ) (at : ℕ) (text after : List ℕ) (next : ℕ) : Type 0 where
   pub buffer : after ≡ pasted before at text
   pub place : next ≡ at + length text
+
+-- the same behind a gap of so many bytes, whatever these hold then
+pub record Behind (before : List ℕ) (at gap : ℕ) (text after : List ℕ) (next : ℕ) : Type 0 where
+  pub free : List ℕ
+  pub width : length free ≡ gap
+  pub put : Put before at (free ++ text) after next
