@@ -5,7 +5,7 @@ ghost use Rattle.blocks.specs.Blocks.{blockOf, withBlock};
 ghost use Rattle.station.specs.Block.{FitBlock};
 ghost use Rattle.station.specs.Control.{initializedOf, clearedOf};
 ghost use Rattle.dataway.specs.Crate.{FitCrate};
-ghost use Rattle.dataway.specs.Controls.{eachStation, afterZ, afterC, afterI};
+ghost use Rattle.dataway.specs.Controls.{afterZ, afterC, afterI};
 ghost use lib.ListN.{length};
 use crate::INHIBIT;
 use blocks::BLOCK_WORDS;

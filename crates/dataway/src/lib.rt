@@ -28,6 +28,18 @@ pub fn command(memory: &mut [u32], n: u32, a: u32, f: u32, w: u32) -> Reply
     station::command(&mut memory[from..to], a, f, w)
 }
 
+// One cycle of a block transfer at station n.
+pub fn cycle(memory: &mut [u32], n: u32, a: u32, f: u32) -> Reply
+    requires { ⌜ FitCrate (now memory) ⌝ }
+    requires { ⌜ (1 ≤ n) × (n ≤ 23) × (a ≤ 15) × (f ≤ 31) ⌝ }
+    ensures answer { λ r. ⌜ r ≡ replyOf (now (memory .entry)) n a f 0 ⌝ }
+    ensures memory { λ _. ⌜ now (memory .exit) ≡ afterCommand (now (memory .entry)) n a f 0 ⌝ }
+{
+    let from = BLOCK_WORDS * n as usize;
+    let to = from + BLOCK_WORDS;
+    station::cycle(&mut memory[from..to], a, f)
+}
+
 // One front event at station n: 1 where it is taken, else 0.
 pub fn front_event(memory: &mut [u32], n: u32, a: u32, v: u32) -> u32
     requires { ⌜ FitCrate (now memory) ⌝ }

@@ -1,6 +1,6 @@
 // Group 1 commands: the registers, at A below r. Of a buffer memory F0, F2, F3 and F9 have rules of their own (module buffer).
 ghost use mathlib.Core.Path.{_≡_};
-ghost use Prim.Native.Nat.{_<_, _^_};
+ghost use Prim.Native.Nat.{_<_};
 ghost use Rattle.station.specs.Block.{FitBlock};
 ghost use Rattle.station.specs.Outcome.{Outcome};
 ghost use Rattle.station.specs.Group1.{readOf, readAndClearOf, readComplementOf, clearOf, overwriteOf, selectiveSetOf, selectiveClearOf, addedOf, executeOf};

@@ -11,6 +11,10 @@ pub mod group1;
 pub mod group2;
 pub mod lam;
 
+use block::FILL;
+use block::KIND;
+use kinds::BUFFER_MEMORY;
+
 // The answer to a command: Command Accepted, Response and read word.
 pub struct Reply {
     pub x: u32,
@@ -51,4 +55,25 @@ pub fn command(b: &mut [u32], a: u32, f: u32, w: u32) -> Reply
         4..=7 | 12..=15 | 20 | 22 | 28..=31 => NOT_ACCEPTED,
         _ => NOT_ACCEPTED,
     }
+}
+
+// One cycle of a block transfer: a command with no word to write. What long transfers are made of, registers that are read and an empty buffer memory that is
+// asked again, is tried first, and is so little that the compiler puts it into their loops.
+pub fn cycle(b: &mut [u32], a: u32, f: u32) -> Reply
+    requires { ⌜ FitBlock (now b) ⌝ ∗ ⌜ a < 16 ⌝ ∗ ⌜ f < 32 ⌝ }
+    ensures { λ r. ⌜ commandOf (now (b .entry)) a f 0 ≡ record { block = now (b .exit); reply = r } ⌝ }
+{
+    if b[KIND] != BUFFER_MEMORY {
+        if f == 0 {
+            return group1::read(b, a);
+        }
+        if f == 3 {
+            return group1::read_complement(b, a);
+        }
+    } else if b[FILL] == 0 {
+        if f == 2 {
+            return buffer::read_and_clear(b, a);
+        }
+    }
+    command(b, a, f, 0)
 }

@@ -28,7 +28,7 @@ pub fn repeat(
     let mut words: u32 = 0;
     let mut cycles: u32 = 0;
     while cycles < tries {
-        let reply = dataway::command(memory, n, a, f, 0);
+        let reply = dataway::cycle(memory, n, a, f);
         cycles += 1;
         if reply.q == 1 {
             buffer[words as usize] = reply.r;

@@ -35,7 +35,7 @@ pub fn scan(
     let mut subaddress = a;
     'stations: while station <= to {
         loop {
-            let reply = dataway::command(memory, station, subaddress, f, 0);
+            let reply = dataway::cycle(memory, station, subaddress, f);
             cycles += 1;
             if reply.q != 1 {
                 break;

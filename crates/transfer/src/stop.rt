@@ -20,7 +20,7 @@ pub fn stop(memory: &mut [u32], buffer: &mut [u32], n: u32, a: u32, f: u32, limi
     let mut words: u32 = 0;
     let mut cycles: u32 = 0;
     while words < limit {
-        let reply = dataway::command(memory, n, a, f, 0);
+        let reply = dataway::cycle(memory, n, a, f);
         cycles += 1;
         if reply.q != 1 {
             return Transfer {

@@ -30,8 +30,8 @@ loop-holds c =
       rest = ap (λ (k : ℕ). repeatFrom k (reads (x .f)) (x .n) (x .a) (x .limit) (x .memory .now) [] 0) e;
     }
 
-command-requires : tie.Need-command-requires Inv-loop μ-loop
-command-requires c κs = (c .before .before .loop .inv .lent .fit, (omega arith, omega arith, omega arith, omega arith, omega arith))
+cycle-requires : tie.Need-cycle-requires Inv-loop μ-loop
+cycle-requires c κs = (c .before .before .loop .inv .lent .fit, (omega arith, omega arith, omega arith, omega arith))
 
 add-cycles : tie.Need-add-cycles Inv-loop μ-loop
 add-cycles c = omega arith
@@ -50,14 +50,14 @@ add-words c = omega arith
 
 same-length : tie.Need-same-length Inv-loop μ-loop
 same-length c =
-    let x = c .before .before .before .before .before .command in
+    let x = c .before .before .before .before .before .cycle in
     let d = made (x .ensures .0) (x .ensures .1) (omega arith) (omega arith) (omega arith) in
     let g = c .before .before .before .before .before .before .before .before .loop .inv in
     lent-put (g .lent) d .size
 
 same-length-2 : tie.Need-same-length-2 Inv-loop μ-loop
 same-length-2 c =
-    let x = c .before .before .before .before .before .command in
+    let x = c .before .before .before .before .before .cycle in
     let d = made (x .ensures .0) (x .ensures .1) (omega arith) (omega arith) (omega arith) in
     let g = c .before .before .before .before .before .before .before .before .loop .inv in
     lent-put (g .lent) d .long
@@ -65,7 +65,7 @@ same-length-2 c =
 -- the limit is reached
 returns : tie.Need-returns Inv-loop μ-loop
 returns c =
-    let x = c .before .before .before .before .before .command in
+    let x = c .before .before .before .before .before .cycle in
     let d = made (x .ensures .0) (x .ensures .1) (omega arith) (omega arith) (omega arith) in
     let g = c .before .before .before .before .before .before .before .before .loop .inv in
     repeating-full g (omega arith) d (omega arith) (c .before .if1 .taken) (c .if2 .taken)
@@ -76,7 +76,7 @@ loop-less c = omega arith
 -- Q = 1
 loop-again : tie.Need-loop-again Inv-loop μ-loop
 loop-again c =
-    let x = c .before .before .before .before .before .command in
+    let x = c .before .before .before .before .before .cycle in
     let d = made (x .ensures .0) (x .ensures .1) (omega arith) (omega arith) (omega arith) in
     let g = c .before .before .before .before .before .before .before .before .loop .inv in
     repeating-hit g (omega arith) d (omega arith) (c .before .if1 .taken) (c .if2 .left)
@@ -87,7 +87,7 @@ loop-less-2 c = omega arith
 -- Q = 0
 loop-again-2 : tie.Need-loop-again-2 Inv-loop μ-loop
 loop-again-2 c =
-    let x = c .before .before .before .before .command in
+    let x = c .before .before .before .before .cycle in
     let d = made (x .ensures .0) (x .ensures .1) (omega arith) (omega arith) (omega arith) in
     let g = c .before .before .before .before .before .before .before .loop .inv in
     repeating-miss g (omega arith) d (omega arith) (c .if1 .left)
@@ -109,7 +109,7 @@ repeat-spec =
     Inv-loop
     μ-loop
     loop-holds
-    command-requires
+    cycle-requires
     add-cycles
     cast-buffer
     mul-buffer

@@ -35,8 +35,8 @@ loop-holds c =
     let g = o .0 in
     (going-here (g .lent .fit) (g .path .from) (g .path .low) (g .room) (lent-words (g .lent) (omega arith)) (g .path .pace), o .1)
 
-command-requires : tie.Need-command-requires Inv-loop μ-loop Inv-stations μ-stations
-command-requires c κs = (c .before .loop .inv .0 .lent .fit, (omega arith, omega arith, omega arith, omega arith, omega arith))
+cycle-requires : tie.Need-cycle-requires Inv-loop μ-loop Inv-stations μ-stations
+cycle-requires c κs = (c .before .loop .inv .0 .lent .fit, (omega arith, omega arith, omega arith, omega arith))
 
 add-cycles : tie.Need-add-cycles Inv-loop μ-loop Inv-stations μ-stations
 add-cycles c = omega arith
@@ -61,7 +61,7 @@ loop-less c = omega arith
 
 loop-again : tie.Need-loop-again Inv-loop μ-loop Inv-stations μ-stations
 loop-again c =
-    let x = c .before .before .before .before .before .before .command in
+    let x = c .before .before .before .before .before .before .cycle in
     let d = made (x .ensures .0) (x .ensures .1) (omega arith) (omega arith) (omega arith) in
     let l = c .before .before .before .before .before .before .before .before .loop .inv in
     (go-more (l .0) (omega arith) (omega arith) d (c .before .before .if1 .left) (c .before .if2 .left) (c .if3 .left), l .1)
@@ -75,7 +75,7 @@ stations-less c = omega arith
 -- the inner loop is left by Q = 0 or at A15
 stations-again : tie.Need-stations-again Inv-loop μ-loop Inv-stations μ-stations
 stations-again c =
-    let x = c .before .before .before .before .command in
+    let x = c .before .before .before .before .cycle in
     let d = made (x .ensures .0) (x .ensures .1) (omega arith) (omega arith) (omega arith) in
     let o = c .before .before .before .before .before .before .before .before .stations .inv .0 in
     let l = c .before .before .before .before .before .before .loop .inv in
@@ -99,7 +99,7 @@ returns c =
 
 same-length-3 : tie.Need-same-length-3 Inv-loop μ-loop Inv-stations μ-stations
 same-length-3 c =
-    let x = c .before .before .before .before .before .command in
+    let x = c .before .before .before .before .before .cycle in
     let d = made (x .ensures .0) (x .ensures .1) (omega arith) (omega arith) (omega arith) in
     let o = c .before .before .before .before .before .before .before .before .before .stations .inv .0 in
     let l = c .before .before .before .before .before .before .before .loop .inv .0 in
@@ -108,7 +108,7 @@ same-length-3 c =
 
 same-length-4 : tie.Need-same-length-4 Inv-loop μ-loop Inv-stations μ-stations
 same-length-4 c =
-    let x = c .before .before .before .before .before .command in
+    let x = c .before .before .before .before .before .cycle in
     let d = made (x .ensures .0) (x .ensures .1) (omega arith) (omega arith) (omega arith) in
     let o = c .before .before .before .before .before .before .before .before .before .stations .inv .0 in
     let l = c .before .before .before .before .before .before .before .loop .inv .0 in
@@ -118,7 +118,7 @@ same-length-4 c =
 -- left from inside
 returns-2 : tie.Need-returns-2 Inv-loop μ-loop Inv-stations μ-stations
 returns-2 c =
-    let x = c .before .before .before .before .before .command in
+    let x = c .before .before .before .before .before .cycle in
     let d = made (x .ensures .0) (x .ensures .1) (omega arith) (omega arith) (omega arith) in
     let o = c .before .before .before .before .before .before .before .before .before .stations .inv .0 in
     let l = c .before .before .before .before .before .before .before .loop .inv .0 in
@@ -135,7 +135,7 @@ scan-spec =
     μ-stations
     stations-holds
     loop-holds
-    command-requires
+    cycle-requires
     add-cycles
     cast-buffer
     mul-buffer

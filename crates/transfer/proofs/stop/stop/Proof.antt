@@ -30,15 +30,15 @@ loop-holds c =
       rest = ap (λ (k : ℕ). stopFrom k (reads (x .f)) (x .n) (x .a) (x .memory .now) [] 0) e;
     }
 
-command-requires : tie.Need-command-requires Inv-loop μ-loop
-command-requires c κs = (c .before .before .loop .inv .lent .fit, (omega arith, omega arith, omega arith, omega arith, omega arith))
+cycle-requires : tie.Need-cycle-requires Inv-loop μ-loop
+cycle-requires c κs = (c .before .before .loop .inv .lent .fit, (omega arith, omega arith, omega arith, omega arith))
 
 add-cycles : tie.Need-add-cycles Inv-loop μ-loop
 add-cycles c = omega arith
 
 same-length : tie.Need-same-length Inv-loop μ-loop
 same-length c =
-    let x = c .before .before .before .before .command in
+    let x = c .before .before .before .before .cycle in
     let d = made (x .ensures .0) (x .ensures .1) (omega arith) (omega arith) (omega arith) in
     let g = c .before .before .before .before .before .before .before .loop .inv in
     lent-kept (g .lent) d .size
@@ -49,7 +49,7 @@ same-length-2 c = c .before .before .before .before .before .before .before .loo
 -- Q = 0
 returns : tie.Need-returns Inv-loop μ-loop
 returns c =
-    let x = c .before .before .before .before .command in
+    let x = c .before .before .before .before .cycle in
     let d = made (x .ensures .0) (x .ensures .1) (omega arith) (omega arith) (omega arith) in
     let g = c .before .before .before .before .before .before .before .loop .inv in
     stopping-miss g (omega arith) d (omega arith) (c .if1 .taken)
@@ -71,7 +71,7 @@ loop-less c = omega arith
 
 loop-again : tie.Need-loop-again Inv-loop μ-loop
 loop-again c =
-    let x = c .before .before .before .before .command in
+    let x = c .before .before .before .before .cycle in
     let d = made (x .ensures .0) (x .ensures .1) (omega arith) (omega arith) (omega arith) in
     let g = c .before .before .before .before .before .before .before .loop .inv in
     stopping-hit g (omega arith) d (omega arith) (c .if1 .left)
@@ -93,7 +93,7 @@ stop-spec =
     Inv-loop
     μ-loop
     loop-holds
-    command-requires
+    cycle-requires
     add-cycles
     same-length
     same-length-2
