@@ -1,5 +1,5 @@
 -- The crate memory is lent as 768 words of 32 bits: 24 blocks of 32. Block n is the words from 32 n to 32 n + 31. Block 0 is the crate's own, with
--- Inhibit I in its word 0; block n, from 1 to 23, is station n's. (01, "Crate memory")
+-- Inhibit I in its word 0; block n, from 1 to 23, is station n's. (RULES 1.2)
 use mathlib.Core.Path.{_≡_}
 use mathlib.Core.List.{List, _++_}
 use Prim.Native.Nat.{ℕ, _+_, _*_, _<_}

@@ -25,7 +25,7 @@ use Rattle.lists.specs.Words.{kindsOf, readingOf}
 use Rattle.lists.specs.Runs.{listOf}
 use Rattle.rehearsal.specs.Modules.{installOf}
 use Rattle.step.specs.Refusals.{verdictNumber}
-use Rattle.capi.specs.Calls.{answerNumber, withAnswer, Called, told, unlessUnfit, short, stepCall, lineCall, installedCall, crateCall, ranCall, listCall}
+use Rattle.capi.specs.Calls.{answerNumber, withAnswer, Called, told, unlessUnfit, ifLent, stepCall, lineCall, installedCall, crateCall, ranCall, listCall}
 
 -- ---- the words of a step
 -- words past the sixth are not looked at
@@ -80,13 +80,13 @@ unfolding withAnswer
 keeps m b out r n h e = rw (lt-leb 4 (length out) h) (λ i. record { number = sym e i; memory = m; answer = out; buffer = b })
 
 -- a refusal for too few words, told
-short-told : (m b out : List ℕ) (q : Refusal) → q ≡ unlessUnfit m ShortBuffer → told (short m b) out ≡ told (refused q m b) out
+short-told : (m b out : List ℕ) (q : Refusal) → q ≡ unlessUnfit m ShortBuffer → told (refused (unlessUnfit m ShortBuffer) m b) out ≡ told (refused q m b) out
 short-told m b out q e = ap (λ (x : Refusal). told (refused x m b) out) (sym e)
 
 -- a step
 module _ (m ws out b : List ℕ) where
   abbrev stepWhen : Bool → Called
-  stepWhen t = told (cond t (stepOf m (order (readingOf ws) b)) (short m b)) out
+  stepWhen t = told (ifLent t m (order (readingOf ws) b)) out
 
   pub step-untold : (q : Refusal) (n : ℕ) → length out < 4 → q ≡ unlessUnfit m ShortBuffer → n ≡ refusalNumber q
       → stepCall m ws out b ≡ record { number = n; memory = m; answer = out; buffer = b }
@@ -118,7 +118,7 @@ module _ (m ws out b : List ℕ) where
 -- a run line
 module _ (m l out b : List ℕ) where
   abbrev lineWhen : Bool → Called
-  lineWhen t = told (cond t (stepOf m (order (readLine l) b)) (short m b)) out
+  lineWhen t = told (ifLent t m (order (readLine l) b)) out
 
   pub line-untold : (q : Refusal) (n : ℕ) → length out < 4 → q ≡ unlessUnfit m ShortBuffer → n ≡ refusalNumber q
       → lineCall m l out b ≡ record { number = n; memory = m; answer = out; buffer = b }

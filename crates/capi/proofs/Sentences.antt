@@ -23,7 +23,7 @@ use Rattle.lists.specs.Words.{readingOf}
 use Rattle.lists.specs.Runs.{ranOf, unrun, isEnough, listOf}
 use Rattle.controller.specs.Placing.{uninstalled, judgedModuleOf, placeOf}
 use Rattle.rehearsal.specs.Modules.{installOf}
-use Rattle.capi.specs.Calls.{answerNumber, short, stepCall, lineCall, crateCall, listCall}
+use Rattle.capi.specs.Calls.{answerNumber, ifLent, stepCall, lineCall, crateCall, listCall}
 use Rattle.step.specs.Refusals.{verdictNumber}
 
 -- a step that is not told as 0 is refused
@@ -37,8 +37,8 @@ told-same m o (Looked p) e h = absurd (h refl)
 told-same m o (Transferred p) e h = absurd (h refl)
 
 -- a step or a line, with enough words lent or not
-lent-same : (m : List ℕ) (o : Order) (t : Bool) → (answerNumber (cond t (stepOf m o) (short m (o .buffer)) .out .answer) ≡ 0 → ⊥)
-    → (cond t (stepOf m o) (short m (o .buffer)) .memory ≡ m) × (cond t (stepOf m o) (short m (o .buffer)) .out .buffer ≡ o .buffer)
+lent-same : (m : List ℕ) (o : Order) (t : Bool) → (answerNumber (ifLent t m o .out .answer) ≡ 0 → ⊥)
+    → (ifLent t m o .memory ≡ m) × (ifLent t m o .out .buffer ≡ o .buffer)
 lent-same m o true h = told-same m o (stepOf m o .out .answer) refl h
 lent-same m o false h = (refl, refl)
 

@@ -1,6 +1,6 @@
 -- The calls of the C library: the number that each returns, and all that it leaves of the arrays that it is lent. The number is 0, or that of the refusal.
 use Prim.Native.Nat.{ℕ}
-use mathlib.Core.Bool.{cond, _&&_}
+use mathlib.Core.Bool.{Bool, cond, _&&_}
 use mathlib.Core.List.{List, _++_}
 use lib.Dec.{leb}
 use lib.ListN.{length, drop}
@@ -10,7 +10,7 @@ use Rattle.step.specs.declared.Refusal.{Refusal}
 use Rattle.step.specs.declared.Refusal.the-variants.{ShortBuffer, UnfitCrate}
 use Rattle.runfile.specs.Read.{readLine, readModule}
 use Rattle.controller.specs.Answers.{answerWords}
-use Rattle.controller.specs.Steps.{Performed, order, refused, stepOf}
+use Rattle.controller.specs.Steps.{Order, Performed, order, refused, stepOf}
 use Rattle.controller.specs.declared.Answer.{Answer}
 use Rattle.controller.specs.declared.Answer.the-variants.{Replied, Taken, Done, Looked, Transferred, Refused}
 use Rattle.lists.specs.Words.{readingOf}
@@ -28,9 +28,13 @@ answerNumber (Looked p) = 0
 answerNumber (Transferred p) = 0
 
 -- ---- one step or one run line
+-- so many words are lent
+abbrev pub lends : ℕ → List ℕ → Bool
+lends n ws = leb n (length ws)
+
 -- the four words of an answer in the first four words lent for it; the rest, and fewer than four, keep their contents
 unfoldable pub withAnswer : List ℕ → Answer → List ℕ
-withAnswer out a = cond (leb 4 (length out)) (answerWords a ++ drop 4 out) out
+withAnswer out a = cond (lends 4 out) (answerWords a ++ drop 4 out) out
 
 -- what the call of a step or a run line returns and leaves
 pub record Called : Type 0 where
@@ -39,7 +43,7 @@ pub record Called : Type 0 where
   pub answer : List ℕ
   pub buffer : List ℕ
 
--- what was performed, told
+-- what was performed, told by the number and by the words lent for the answer
 abbrev pub told : Performed → (out : List ℕ) → Called
 told p out = record {
   number = answerNumber (p .out .answer);
@@ -52,17 +56,17 @@ told p out = record {
 unfoldable pub unlessUnfit : (m : List ℕ) → Refusal → Refusal
 unlessUnfit m q = cond (isFitCrate m) q UnfitCrate
 
--- too few words are lent for the step or its answer: 9, else 8
-abbrev pub short : (m b : List ℕ) → Performed
-short m b = refused (unlessUnfit m ShortBuffer) m b
+-- a step, where enough words are lent; else 9, and then 8
+abbrev pub ifLent : (enough : Bool) → (m : List ℕ) → Order → Performed
+ifLent enough m o = cond enough (stepOf m o) (refused (unlessUnfit m ShortBuffer) m (o .buffer))
 
 -- the step of the first six words of ws
 unfoldable pub stepCall : (m ws out b : List ℕ) → Called
-stepCall m ws out b = told (cond (leb 6 (length ws) && leb 4 (length out)) (stepOf m (order (readingOf ws) b)) (short m b)) out
+stepCall m ws out b = told (ifLent (lends 6 ws && lends 4 out) m (order (readingOf ws) b)) out
 
 -- the run line of the bytes l
 unfoldable pub lineCall : (m l out b : List ℕ) → Called
-lineCall m l out b = told (cond (leb 4 (length out)) (stepOf m (order (readLine l) b)) (short m b)) out
+lineCall m l out b = told (ifLent (lends 4 out) m (order (readLine l) b)) out
 
 -- ---- one crate line
 -- what its call returns and leaves

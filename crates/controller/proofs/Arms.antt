@@ -102,13 +102,13 @@ lam-acts s m b p e q = rw (e, q)
 -- ---- a step that is judged first
 fine-done : (m b : List ℕ) (s : Step) → stepVerdict s b ≡ Fine → doneOf m (order (Good s) b) ≡ actOf m s b
 unfolding doneOf
-fine-done m b s e = ap (λ (w : Verdict). judgedOf w m (Good s) b) e
+fine-done m b s e = ap (λ (w : Verdict). judgedOf w m s b) e
 
 module _ (m b : List ℕ) (f : FitCrate m) where
   pub refused-done : (s : Step) (v : Verdict) (q : Refusal) → v ≡ stepVerdict s b → v ≡ Refuse q
       → (doneOf m (order (Good s) b) ≡ performed m (Refused q) b) × FitCrate m
   unfolding doneOf
-  refused-done s v q e h = (ap (λ (w : Verdict). judgedOf w m (Good s) b) (sym e ∙ h), f)
+  refused-done s v q e h = (ap (λ (w : Verdict). judgedOf w m s b) (sym e ∙ h), f)
 
   pub acted-done : (s : Step) (v : Verdict) (m′ b′ : List ℕ) (r : Answer) → v ≡ stepVerdict s b → v ≡ Fine → actOf m s b ≡ performed m′ r b′
       → (doneOf m (order (Good s) b) ≡ performed m′ r b′) × FitCrate m′

@@ -44,11 +44,11 @@ module _ (m : List ℕ) (s : Step) (b : List ℕ) where
   unfolding stepOf doneOf
   step-did h = go (isFitCrate m) (stepVerdict s b) refl refl h
     where
-      go : (t : Bool) (v : Verdict) → isFitCrate m ≡ t → stepVerdict s b ≡ v → NoRefusal (cond t (judgedOf v m (Good s) b) (refused UnfitCrate m b)) → Did m s b
+      go : (t : Bool) (v : Verdict) → isFitCrate m ≡ t → stepVerdict s b ≡ v → NoRefusal (cond t (judgedOf v m s b) (refused UnfitCrate m b)) → Did m s b
       go true Fine f e n = record {
         fit = crate-facts m f;
         fine = ap isFine e;
-        did = ap (λ (t : Bool). cond t (judgedOf (stepVerdict s b) m (Good s) b) (refused UnfitCrate m b)) f ∙ ap (λ (v : Verdict). judgedOf v m (Good s) b) e;
+        did = ap (λ (t : Bool). cond t (judgedOf (stepVerdict s b) m s b) (refused UnfitCrate m b)) f ∙ ap (λ (v : Verdict). judgedOf v m s b) e;
       }
       go true (Refuse q) f e n = absurd (n q refl)
       go false v f e n = absurd (n UnfitCrate refl)

@@ -1,4 +1,4 @@
--- Sentences of 01 about a step: every step leaves the crate fit, a refusal changes nothing, from a fit crate only fields and buffer decide whether a step is
+-- Sentences about a step (RULES 5.6, 5.7, 6.12): every step leaves the crate fit, a refusal changes nothing, from a fit crate only fields and buffer decide whether a step is
 -- refused; and the words of an answer tell the answer.
 -- Assumes nothing.
 use mathlib.Core.Path.{_≡_, refl, sym, ap, _∙_}
@@ -17,7 +17,7 @@ use Rattle.dataway.specs.Crate.{isFitCrate, FitCrate}
 use Rattle.step.specs.Verdict.{verdictOf, stepVerdict, isFine}
 use Rattle.step.proofs.Fine.{scan-fields, repeat-fields, stop-fields}
 use Rattle.step.proofs.Numbers.{row, row-number}
-use Rattle.controller.specs.Steps.{Order, Performed, refused, actOf, judgedOf, doneOf, stepOf, leaves, gives}
+use Rattle.controller.specs.Steps.{Order, Performed, refused, actOf, judgedOf, readingDone, doneOf, stepOf, leaves, gives}
 use Rattle.controller.specs.Answers.{answerWords}
 use Rattle.controller.proofs.StepLaws.{law, step-done}
 use Rattle.step.specs.declared.Refusal.{Refusal}
@@ -55,27 +55,40 @@ act-answers m (Scan n a f to limit) b = refl
 act-answers m (Repeat n a f limit tries) b = refl
 act-answers m (Stop n a f limit) b = refl
 
-judged-same : (v : Verdict) (m : List ℕ) (r : Reading) (b : List ℕ) → isRefused (judgedOf v m r b .out .answer) ≡ true
-    → (judgedOf v m r b .memory ≡ m) × (judgedOf v m r b .out .buffer ≡ b)
-judged-same Fine m (Good s) b e = absurd (false≢true (sym (act-answers m s b) ∙ e))
-judged-same Fine m (Bad q) b e = (refl, refl)
-judged-same (Refuse q) m r b e = (refl, refl)
+judged-same : (v : Verdict) (m : List ℕ) (s : Step) (b : List ℕ) → isRefused (judgedOf v m s b .out .answer) ≡ true
+    → (judgedOf v m s b .memory ≡ m) × (judgedOf v m s b .out .buffer ≡ b)
+judged-same Fine m s b e = absurd (false≢true (sym (act-answers m s b) ∙ e))
+judged-same (Refuse q) m s b e = (refl, refl)
 
-judged-by : (v : Verdict) (m m′ : List ℕ) (r : Reading) (b : List ℕ) → isRefused (judgedOf v m r b .out .answer) ≡ true
-    → judgedOf v m′ r b .out ≡ judgedOf v m r b .out
-judged-by Fine m m′ (Good s) b e = absurd (false≢true (sym (act-answers m s b) ∙ e))
-judged-by Fine m m′ (Bad q) b e = refl
-judged-by (Refuse q) m m′ r b e = refl
+done-same : (m : List ℕ) (r : Reading) (b : List ℕ) → isRefused (readingDone m r b .out .answer) ≡ true
+    → (readingDone m r b .memory ≡ m) × (readingDone m r b .out .buffer ≡ b)
+done-same m (Good s) b e = judged-same (stepVerdict s b) m s b e
+done-same m (Bad q) b e = (refl, refl)
+
+judged-by : (v : Verdict) (m m′ : List ℕ) (s : Step) (b : List ℕ) → isRefused (judgedOf v m s b .out .answer) ≡ true
+    → judgedOf v m′ s b .out ≡ judgedOf v m s b .out
+judged-by Fine m m′ s b e = absurd (false≢true (sym (act-answers m s b) ∙ e))
+judged-by (Refuse q) m m′ s b e = refl
+
+done-by : (m m′ : List ℕ) (r : Reading) (b : List ℕ) → isRefused (readingDone m r b .out .answer) ≡ true
+    → readingDone m′ r b .out ≡ readingDone m r b .out
+done-by m m′ (Good s) b e = judged-by (stepVerdict s b) m m′ s b e
+done-by m m′ (Bad q) b e = refl
+
+-- a reading whose verdict is a refusal is refused so
+pub refused-reading : (m : List ℕ) (r : Reading) (b : List ℕ) (q : Refusal) → verdictOf r b ≡ Refuse q → readingDone m r b ≡ refused q m b
+refused-reading m (Good s) b q e = ap (λ (v : Verdict). judgedOf v m s b) e
+refused-reading m (Bad p) b q e = let h : p ≡ q = cc in ap (λ (x : Refusal). refused x m b) h
 
 -- a refusal changes nothing, in the crate or in the buffer
 pub refused-same : (m : List ℕ) (o : Order) (q : Refusal) → gives m o .answer ≡ Refused q → (leaves m o ≡ m) × (gives m o .buffer ≡ o .buffer)
 unfolding stepOf doneOf
 refused-same m o q e = go (isFitCrate m) (ap isRefused e)
   where
-    go : (t : Bool) → isRefused (cond t (judgedOf (verdictOf (o .reading) (o .buffer)) m (o .reading) (o .buffer)) (refused UnfitCrate m (o .buffer)) .out .answer) ≡ true
-        → (cond t (judgedOf (verdictOf (o .reading) (o .buffer)) m (o .reading) (o .buffer)) (refused UnfitCrate m (o .buffer)) .memory ≡ m)
-        × (cond t (judgedOf (verdictOf (o .reading) (o .buffer)) m (o .reading) (o .buffer)) (refused UnfitCrate m (o .buffer)) .out .buffer ≡ o .buffer)
-    go true h = judged-same (verdictOf (o .reading) (o .buffer)) m (o .reading) (o .buffer) h
+    go : (t : Bool) → isRefused (cond t (readingDone m (o .reading) (o .buffer)) (refused UnfitCrate m (o .buffer)) .out .answer) ≡ true
+        → (cond t (readingDone m (o .reading) (o .buffer)) (refused UnfitCrate m (o .buffer)) .memory ≡ m)
+        × (cond t (readingDone m (o .reading) (o .buffer)) (refused UnfitCrate m (o .buffer)) .out .buffer ≡ o .buffer)
+    go true h = done-same m (o .reading) (o .buffer) h
     go false h = (refl, refl)
 
 -- from a fit crate only a step's fields and its buffer decide whether it is refused, and with which number
@@ -83,7 +96,7 @@ pub refused-by : (m m′ : List ℕ) (o : Order) (q : Refusal) → FitCrate m �
 unfolding doneOf
 refused-by m m′ o q f f′ e =
     ap (λ (p : Performed). p .out) (step-done m′ o f′)
-    ∙ judged-by (verdictOf (o .reading) (o .buffer)) m m′ (o .reading) (o .buffer)
+    ∙ done-by m m′ (o .reading) (o .buffer)
     (ap (λ (p : Performed). isRefused (p .out .answer)) (sym (step-done m o f)) ∙ ap isRefused e)
     ∙ sym (ap (λ (p : Performed). p .out) (step-done m o f))
 
@@ -108,17 +121,20 @@ act-long m (Stop n a f limit) b e =
     let h = stop-fields n a f limit (length b) e in
     ended-long (stopOf m n a f limit) b limit (stop-words (reads f) n a limit m) (h .6)
 
-judged-long : (v : Verdict) (m : List ℕ) (r : Reading) (b : List ℕ) → verdictOf r b ≡ v → length (judgedOf v m r b .out .buffer) ≡ length b
-judged-long Fine m (Good s) b e = act-long m s b (ap isFine e)
-judged-long Fine m (Bad q) b e = refl
-judged-long (Refuse q) m r b e = refl
+judged-long : (v : Verdict) (m : List ℕ) (s : Step) (b : List ℕ) → stepVerdict s b ≡ v → length (judgedOf v m s b .out .buffer) ≡ length b
+judged-long Fine m s b e = act-long m s b (ap isFine e)
+judged-long (Refuse q) m s b e = refl
+
+done-long : (m : List ℕ) (r : Reading) (b : List ℕ) → length (readingDone m r b .out .buffer) ≡ length b
+done-long m (Good s) b = judged-long (stepVerdict s b) m s b refl
+done-long m (Bad q) b = refl
 
 pub step-long : (m : List ℕ) (o : Order) → length (gives m o .buffer) ≡ length (o .buffer)
 unfolding stepOf doneOf
 step-long m o = go (isFitCrate m)
   where
-    go : (t : Bool) → length (cond t (judgedOf (verdictOf (o .reading) (o .buffer)) m (o .reading) (o .buffer)) (refused UnfitCrate m (o .buffer)) .out .buffer) ≡ length (o .buffer)
-    go true = judged-long (verdictOf (o .reading) (o .buffer)) m (o .reading) (o .buffer) refl
+    go : (t : Bool) → length (cond t (readingDone m (o .reading) (o .buffer)) (refused UnfitCrate m (o .buffer)) .out .buffer) ≡ length (o .buffer)
+    go true = done-long m (o .reading) (o .buffer)
     go false = refl
 
 -- the four words of an answer tell the answer

@@ -1,4 +1,4 @@
--- Every step obeys the one law (01, 'Inspection of the contracts', 4): one case a kind of step, none a kind of module. And so lists may be regrouped.
+-- Every step obeys the one law (RULES 5.8): one case a kind of step, none a kind of module. And so lists may be regrouped.
 -- Assumes nothing.
 use mathlib.Core.Path.{_≡_, refl, ap}
 use mathlib.Core.Bool.{Bool, true, false, cond, _&&_}
@@ -20,8 +20,9 @@ use Rattle.transfer.specs.Scan.{scanOf}
 use Rattle.transfer.specs.Repeat.{repeatOf}
 use Rattle.transfer.specs.Stop.{stopOf}
 use Rattle.transfer.proofs.Locality.{local-scan, local-repeat, local-stop}
-use Rattle.step.specs.Verdict.{verdictOf, stepVerdict, isFine}
-use Rattle.step.specs.Touches.{reach, reachOf}
+use Rattle.step.specs.Verdict.{stepVerdict, isFine}
+use Rattle.step.specs.Touches.{reach, touchesOf}
+use Rattle.step.specs.declared.Refusal.{Refusal}
 use Rattle.step.proofs.Fine.{command-fine, front-fine, inhibit-fine, scan-fine, repeat-fine, stop-fine}
 use Rattle.step.specs.declared.Refusal.the-variants.{UnfitCrate}
 use Rattle.step.specs.declared.Step.{Step}
@@ -31,7 +32,7 @@ use Rattle.step.specs.declared.Reading.the-variants.{Good, Bad}
 use Rattle.step.specs.declared.Verdict.{Verdict}
 use Rattle.step.specs.declared.Verdict.the-variants.{Fine, Refuse}
 use Rattle.controller.specs.declared.Answer.the-variants.{Replied, Taken, Transferred, Refused}
-use Rattle.controller.specs.Steps.{Order, Out, Performed, refused, actOf, judgedOf, doneOf, stepOf, leaves, gives, touches}
+use Rattle.controller.specs.Steps.{Order, Out, Performed, refused, actOf, judgedOf, readingDone, doneOf, stepOf, leaves, gives, touches}
 use Rattle.controller.specs.Regrouping.{beyond, Regrouping}
 
 -- two ways to say one thing of fit crates
@@ -88,13 +89,19 @@ good (Stop n a f limit) b e =
 -- ---- any step, refused or not
 local-done : (o : Order) → Local FitCrate (touches o) (λ (m : List ℕ). doneOf m o .memory) (λ (m : List ℕ). doneOf m o .out)
 unfolding doneOf
-local-done o = go (o .reading) (o .buffer) (verdictOf (o .reading) (o .buffer)) refl
+local-done o = go (o .reading) (o .buffer)
   where
-    go : (r : Reading) (b : List ℕ) (v : Verdict) → verdictOf r b ≡ v
-        → Local FitCrate (λ (k : ℕ). isFine v && reachOf r k) (λ (m : List ℕ). judgedOf v m r b .memory) (λ (m : List ℕ). judgedOf v m r b .out)
-    go (Good s) b Fine e = good s b (ap isFine e)
-    go (Bad q) b Fine e = local-none FitCrate crate-size (λ (k : ℕ). false) (record { answer = Refused q; buffer = b })
-    go r b (Refuse q) e = local-none FitCrate crate-size (λ (k : ℕ). false) (record { answer = Refused q; buffer = b })
+    none : (b : List ℕ) (q : Refusal) → Local FitCrate (λ (k : ℕ). false) (λ (m : List ℕ). refused q m b .memory) (λ (m : List ℕ). refused q m b .out)
+    none b q = local-none FitCrate crate-size (λ (k : ℕ). false) (record { answer = Refused q; buffer = b })
+
+    judged : (s : Step) (b : List ℕ) (v : Verdict) → stepVerdict s b ≡ v
+        → Local FitCrate (λ (k : ℕ). isFine v && reach s k) (λ (m : List ℕ). judgedOf v m s b .memory) (λ (m : List ℕ). judgedOf v m s b .out)
+    judged s b Fine e = good s b (ap isFine e)
+    judged s b (Refuse q) e = none b q
+
+    go : (r : Reading) (b : List ℕ) → Local FitCrate (λ (k : ℕ). touchesOf r b k) (λ (m : List ℕ). readingDone m r b .memory) (λ (m : List ℕ). readingDone m r b .out)
+    go (Good s) b = judged s b (stepVerdict s b) refl
+    go (Bad q) b = none b q
 
 -- from a fit crate 9 does not come
 pub step-done : (m : List ℕ) (o : Order) → FitCrate m → stepOf m o ≡ doneOf m o

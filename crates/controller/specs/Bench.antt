@@ -1,4 +1,4 @@
--- The bench table (01): P1 to P12 in one statement about the definitions.
+-- The bench table (RULES 8): P1 to P12 in one statement about the definitions.
 use Prim.Native.Nat.{ℕ}
 use mathlib.Core.Path.{_≡_}
 use mathlib.Core.List.{List, _∷_, _++_}

@@ -1,4 +1,4 @@
--- A crate line on a fit crate (01, 'Crate and run files'): the memory with its module in it, or its refusal. A refusal changes nothing.
+-- A crate line on a fit crate (RULES 6.19, 7.11): the memory with its module in it, or its refusal. A refusal changes nothing.
 use Prim.Native.Nat.{ℕ}
 use mathlib.Core.List.{List}
 use Rattle.kinds.specs.declared.Module.{Module}

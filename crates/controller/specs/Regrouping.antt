@@ -1,4 +1,4 @@
--- Demand 3 (01, 'Steps that touch stations'), of two whole lists.
+-- Demand 3 (RULES 5.9 to 5.12), of two whole lists.
 use Prim.Native.Nat.{ℕ}
 use mathlib.Core.List.{List, []}
 use Rattle.regroup.specs.Lists.{Rearranged, Alike}

@@ -11,7 +11,7 @@ use Rattle.transfer.specs.Cycle.{Ended, transferOf, bufferAfter}
 use Rattle.transfer.specs.Scan.{scanOf}
 use Rattle.transfer.specs.Repeat.{repeatOf}
 use Rattle.transfer.specs.Stop.{stopOf}
-use Rattle.step.specs.Verdict.{verdictOf}
+use Rattle.step.specs.Verdict.{stepVerdict}
 use Rattle.step.specs.Touches.{touchesOf}
 use Rattle.step.specs.declared.Refusal.{Refusal}
 use Rattle.step.specs.declared.Refusal.the-variants.{UnfitCrate}
@@ -66,14 +66,18 @@ actOf m (Repeat n a f limit tries) b = transferred (repeatOf m n a f limit tries
 actOf m (Stop n a f limit) b = transferred (stopOf m n a f limit) b
 
 -- a step with its verdict
-abbrev pub judgedOf : Verdict → List ℕ → Reading → List ℕ → Performed
-judgedOf Fine m (Good s) b = actOf m s b
-judgedOf Fine m (Bad q) b = refused q m b
-judgedOf (Refuse q) m r b = refused q m b
+abbrev pub judgedOf : Verdict → List ℕ → Step → List ℕ → Performed
+judgedOf Fine m s b = actOf m s b
+judgedOf (Refuse q) m s b = refused q m b
 
--- a step from a fit crate: 1, then the fields from left to right, 8 last, else what it does
+-- a reading: 1 where it is no step, else the fields from left to right, 8 last, else what the step does
+abbrev pub readingDone : List ℕ → Reading → List ℕ → Performed
+readingDone m (Good s) b = judgedOf (stepVerdict s b) m s b
+readingDone m (Bad q) b = refused q m b
+
+-- a step from a fit crate
 unfoldable pub doneOf : List ℕ → Order → Performed
-doneOf m o = judgedOf (verdictOf (o .reading) (o .buffer)) m (o .reading) (o .buffer)
+doneOf m o = readingDone m (o .reading) (o .buffer)
 
 -- a step from any memory: first 9
 unfoldable pub stepOf : List ℕ → Order → Performed

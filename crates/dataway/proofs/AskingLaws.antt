@@ -12,7 +12,8 @@ use lib.ListN.{length, getD, length-append, List·getD-append}
 use lib.Seq.{getD-at}
 use Rattle.blocks.specs.Blocks.{blockOf}
 use Rattle.station.specs.Block.{requestOf}
-use Rattle.dataway.specs.Lam.{isRequesting, requests, countTo, firstTo, lamOf}
+use Rattle.dataway.specs.Lam.{isRequesting, requests, countTo, firstFrom, lamOf}
+use Rattle.dataway.proofs.LamLaws.{firstTo, first-suc}
 use Rattle.dataway.specs.Asking.{Asks, CountAndFirst}
 
 module _ (m : List ℕ) where
@@ -22,7 +23,7 @@ module _ (m : List ℕ) where
     each : (n : ℕ) → 1 ≤ n → n ≤ k → Asks m n → (i : ℕ) × (i < length ns) × (getD ns i 0 ≡ n)
     rising : (i j : ℕ) → i < j → j < length ns → getD ns i 0 < getD ns j 0
     count : countTo k m ≡ length ns
-    first : firstTo k m ≡ getD ns 0 0
+    first : firstTo m k ≡ getD ns 0 0
 
   -- station k + 1 does not request
   module _ (k : ℕ) (ns : List ℕ) (t : To k ns) (e : requestOf (blockOf m (suc k)) ≡ 0) where
@@ -30,9 +31,8 @@ module _ (m : List ℕ) where
     unfolding requests isRequesting
     not-asked = simp e
 
-    first-same : (x : ℕ) → firstTo k m ≡ x → firstTo (suc k) m ≡ x
-    unfolding firstTo
-    first-same x f = rw not-asked (rw f (pick x))
+    first-same : (x : ℕ) → firstTo m k ≡ x → firstTo m (suc k) ≡ x
+    first-same x f = first-suc m k ∙ rw not-asked (rw f (pick x))
       where
         pick : (x : ℕ) → cond (eqb x 0) (0 * suc k) x ≡ x
         pick zero = omega arith
@@ -93,10 +93,10 @@ module _ (m : List ℕ) where
           | no p ↦ let h = t .each n lo (omega arith) a in (h .0, omega (arith, h .1, long), old (h .0) (h .1) ∙ h .2)
         ]
 
-    first-more : firstTo (suc k) m ≡ getD more 0 0
-    unfolding firstTo
+    first-more : firstTo m (suc k) ≡ getD more 0 0
     first-more =
-        elim (decLt 0 (length ns)) [
+        first-suc m k
+        ∙ elim (decLt 0 (length ns)) [
           | yes p ↦
               let h : 1 ≤ getD ns 0 0 = t .only 0 p .0 in
               rw (t .first, ne-eqb (getD ns 0 0) 0 (λ z. omega arith), old 0 p)
@@ -121,7 +121,7 @@ module _ (m : List ℕ) where
     }
 
   asking-to : (k : ℕ) → (ns : List ℕ) × To k ns
-  unfolding countTo firstTo
+  unfolding countTo firstFrom
   asking-to zero = (
     [],
     record {

@@ -2,17 +2,16 @@
 -- Inhibit by 0 or 1.
 -- Assumes nothing.
 use Prim.Native.Nat.{ℕ, _+_, _-_, _*_, _≤_, _<_}
-use mathlib.Core.Path.{_≡_, refl, sym, subst, _∙_}
+use mathlib.Core.Path.{_≡_, refl, subst, _∙_}
 use mathlib.Core.List.{List}
-use mathlib.Core.Bool.{Bool, true}
+use mathlib.Core.Bool.{true}
 use mathlib.Core.Logic.{⊎-elim}
 use native.Mathlib.Omega.{arith}
 use borrow.Author.Tests.{ltb-true, eqb-true, lt-ltb, eq-eqb}
-use lib.ListN.{length, getD, set, replicate, length-set}
+use lib.ListN.{getD, set, length-set}
 use lib.Seq.{getD-set-same, getD-set-other}
-use Rattle.blocks.specs.Blocks.{blockOf, withBlock, inhibitOf}
+use Rattle.blocks.specs.Blocks.{blockOf, withBlock}
 use Rattle.blocks.proofs.Blocks.{length-with, put-other, block-same, block-other, block-of-agree}
-use Rattle.kinds.specs.Cases.{every}
 use Rattle.kinds.specs.Table.{inTable}
 use Rattle.station.specs.Block.{FitBlock, isFitBlock, isFitHeader, headerTests, isFitSpare, isFitRegister, fitTests, isUsed, sourcesOf}
 use Rattle.kinds.proofs.TestLaws.{alike, every-at, every-intro, all-true, all-intro}

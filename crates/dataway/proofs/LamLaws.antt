@@ -5,7 +5,7 @@ use mathlib.Core.Path.{_≡_, refl, sym, ap, ap₂, _∙_}
 use mathlib.Core.List.{List}
 use mathlib.Core.Bool.{Bool, true, false, cond}
 use mathlib.Core.Logic.{_⊎_, inl, inr, ⊎-elim}
-use native.Mathlib.Nat.{pow-suc, le-of-suc-le-suc}
+use native.Mathlib.Nat.{add-zero, pow-suc, le-of-suc-le-suc}
 use native.Mathlib.Numerals.{add-one}
 use native.Mathlib.Omega.{arith}
 use borrow.Author.Tests.{ne-eqb}
@@ -20,7 +20,7 @@ use Rattle.word24.specs.Word.{bitOf, asBit, bitsOf}
 use Rattle.word24.proofs.BitsOf.{bits-suc, bits-lt, bits-or, bits-bit, bits-unique}
 use Rattle.station.specs.Block.{requestOf}
 use Rattle.kinds.proofs.TestLaws.{alike, positive}
-use Rattle.dataway.specs.Lam.{isRequesting, requests, patternTo, countTo, firstTo, lamOf}
+use Rattle.dataway.specs.Lam.{isRequesting, requests, patternTo, countTo, firstFrom, lamOf}
 use Rattle.dataway.specs.declared.lam.LamReading.{LamReading}
 
 -- ---- a station's request
@@ -112,28 +112,52 @@ module _ (m : List ℕ) where
   pattern-ones (suc k) = ones-cat k (requests m (suc k)) (patternTo k m) (pattern-lt k) ∙ ap₂ (λ (x y : ℕ). x + y) (ones-of-request (suc k)) (pattern-ones k)
 
   -- ---- its lowest 1
-  pub first-none : (k : ℕ) → patternTo k m ≡ 0 → firstTo k m ≡ 0
-  unfolding firstTo
+  -- the first of stations 1 to k
+  abbrev pub firstTo : ℕ → ℕ
+  firstTo k = firstFrom k 1 m
+
+  -- one station more counts where none before it requests
+  first-more : (k n : ℕ) → 1 ≤ n → firstFrom (suc k) n m ≡ cond (eqb (firstFrom k n m) 0) (requests m (n + k) * (n + k)) (firstFrom k n m)
+  unfolding firstFrom requests
+  first-more zero n h = rw (add-zero n) (go (isRequesting m n))
+    where
+      go : (t : Bool) → cond t n 0 ≡ asBit t * n
+      go true = omega arith
+      go false = omega arith
+  first-more (suc k) n h = rw (first-more k (suc n) (omega arith), shift) (go (isRequesting m n) (firstFrom k (suc n) m))
+    where
+      shift : suc n + k ≡ n + suc k
+      shift = omega arith
+
+      go : (t : Bool) (f : ℕ) → cond t n (cond (eqb f 0) (requests m (n + suc k) * (n + suc k)) f)
+          ≡ cond (eqb (cond t n f) 0) (requests m (n + suc k) * (n + suc k)) (cond t n f)
+      go true f = rw (ne-eqb n 0 (λ e. omega arith))
+      go false f = refl
+
+  pub first-suc : (k : ℕ) → firstTo (suc k) ≡ cond (eqb (firstTo k) 0) (requests m (suc k) * suc k) (firstTo k)
+  first-suc k = let one : 1 + k ≡ suc k = omega arith in rw one at (first-more k 1 (omega arith))
+
+  pub first-none : (k : ℕ) → patternTo k m ≡ 0 → firstTo k ≡ 0
+  unfolding firstFrom
   first-none zero e = refl
   first-none (suc k) e =
       let q : requests m (suc k) * 2 ^ k + patternTo k m ≡ 0 = sym (pattern-suc k) ∙ e in
       let p : patternTo k m ≡ 0 = omega arith in
       ⊎-elim
-      (λ (r : requests m (suc k) ≡ 0). rw (first-none k p, r) (omega arith))
+      (λ (r : requests m (suc k) ≡ 0). first-suc k ∙ rw (first-none k p, r) (omega arith))
       (λ (r : requests m (suc k) ≡ 1). absurd (let one : 1 * 2 ^ k + patternTo k m ≡ 0 = rw r at q in omega (arith, pow-pos k)))
       (request-bit m (suc k))
 
-  pub first-some : (k : ℕ) → k ≤ 23 → (patternTo k m ≡ 0 → ⊥) → trailingZeros 32 (patternTo k m) + 1 ≡ firstTo k m
-  unfolding firstTo
+  pub first-some : (k : ℕ) → k ≤ 23 → (patternTo k m ≡ 0 → ⊥) → trailingZeros 32 (patternTo k m) + 1 ≡ firstTo k
   first-some zero l n = absurd (n pattern-zero)
-  first-some (suc k) l n = rw (pattern-suc k) (⊎-elim none (some (first-some k (omega arith))) (alike (patternTo k m) 0))
+  first-some (suc k) l n = rw (pattern-suc k, first-suc k) (⊎-elim none (some (first-some k (omega arith))) (alike (patternTo k m) 0))
     where
       -- station k + 1 is the lowest
       one : trailingZeros 32 (1 * 2 ^ k + 0) ≡ k
       one = ap (trailingZeros 32) (omega arith) ∙ trailing-one 32 k (omega arith)
 
       none : patternTo k m ≡ 0
-          → trailingZeros 32 (requests m (suc k) * 2 ^ k + patternTo k m) + 1 ≡ cond (eqb (firstTo k m) 0) (requests m (suc k) * suc k) (firstTo k m)
+          → trailingZeros 32 (requests m (suc k) * 2 ^ k + patternTo k m) + 1 ≡ cond (eqb (firstTo k) 0) (requests m (suc k) * suc k) (firstTo k)
       none p =
           ⊎-elim
           (λ (r : requests m (suc k) ≡ 0). absurd (n (rw (pattern-suc k, r, p) (omega arith))))
@@ -141,11 +165,11 @@ module _ (m : List ℕ) where
           (request-bit m (suc k))
 
       -- a lower one is
-      some : ((patternTo k m ≡ 0 → ⊥) → trailingZeros 32 (patternTo k m) + 1 ≡ firstTo k m) → (patternTo k m ≡ 0 → ⊥)
-          → trailingZeros 32 (requests m (suc k) * 2 ^ k + patternTo k m) + 1 ≡ cond (eqb (firstTo k m) 0) (requests m (suc k) * suc k) (firstTo k m)
+      some : ((patternTo k m ≡ 0 → ⊥) → trailingZeros 32 (patternTo k m) + 1 ≡ firstTo k) → (patternTo k m ≡ 0 → ⊥)
+          → trailingZeros 32 (requests m (suc k) * 2 ^ k + patternTo k m) + 1 ≡ cond (eqb (firstTo k) 0) (requests m (suc k) * suc k) (firstTo k)
       some lower p =
           let ih = lower p in
-          rw (trailing-below 32 k (requests m (suc k)) (patternTo k m) (pattern-lt k) p, ne-eqb (firstTo k m) 0 (λ e. omega arith)) ih
+          rw (trailing-below 32 k (requests m (suc k)) (patternTo k m) (pattern-lt k) p, ne-eqb (firstTo k) 0 (λ e. omega arith)) ih
 
   -- ---- the whole reading, from the pattern l
   module _ (l : ℕ) (e : l ≡ patternTo 23 m) where
@@ -155,11 +179,11 @@ module _ (m : List ℕ) where
     pub reading-none : l ≡ 0 → _≡_ {A = LamReading} (record { l = l; count = ones l; first = 0 }) (lamOf m)
     unfolding lamOf
     reading-none z =
-        let f : 0 ≡ firstTo 23 m = sym (first-none 23 (sym e ∙ z)) in
+        let f : 0 ≡ firstTo 23 = sym (first-none 23 (sym e ∙ z)) in
         λ i. record { l = e i; count = count-is i; first = f i }
 
     pub reading-some : (l ≡ 0 → ⊥) → _≡_ {A = LamReading} (record { l = l; count = ones l; first = trailingZeros 32 l + 1 }) (lamOf m)
     unfolding lamOf
     reading-some n =
-        let f : trailingZeros 32 l + 1 ≡ firstTo 23 m = ap (λ (x : ℕ). trailingZeros 32 x + 1) e ∙ first-some 23 (omega arith) (λ z. n (e ∙ z)) in
+        let f : trailingZeros 32 l + 1 ≡ firstTo 23 = ap (λ (x : ℕ). trailingZeros 32 x + 1) e ∙ first-some 23 (omega arith) (λ z. n (e ∙ z)) in
         λ i. record { l = e i; count = count-is i; first = f i }

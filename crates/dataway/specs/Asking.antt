@@ -1,4 +1,4 @@
--- The Look-at-Me reading in 01's words ('Front panel and common controls'): count is how many stations request, first is the lowest of them or 0.
+-- The Look-at-Me reading in plain words (RULES 3.16, 3.17): count is how many stations request, first is the lowest of them or 0.
 use Prim.Native.Nat.{ℕ, _≤_, _<_}
 use mathlib.Core.Path.{_≡_}
 use mathlib.Core.List.{List}

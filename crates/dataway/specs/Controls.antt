@@ -1,4 +1,4 @@
--- The common controls of the crate (01, 'Front panel and common controls'): Z, C and Inhibit.
+-- The common controls of the crate (RULES 3.11 to 3.13): Z, C and Inhibit.
 use Prim.Native.Nat.{ℕ, zero, suc}
 use mathlib.Core.List.{List}
 use lib.ListN.{set}

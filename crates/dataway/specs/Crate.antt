@@ -1,4 +1,4 @@
--- When a crate memory is fit (01, 'Crate memory'): 768 words, block 0 as said, and a fit block for each of the 23 stations.
+-- When a crate memory is fit (RULES 1.2, 1.3, 1.7): 768 words, block 0 as said, and a fit block for each of the 23 stations.
 use Prim.Native.Nat.{ℕ, _+_, _<_, _≤_}
 use mathlib.Core.Path.{_≡_}
 use mathlib.Core.List.{List, [], _∷_}

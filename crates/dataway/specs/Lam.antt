@@ -1,8 +1,8 @@
--- The Look-at-Me reading (01, 'Front panel and common controls'): L, how many of its bits are 1, and the lowest requesting station.
-use Prim.Native.Nat.{ℕ, zero, suc, _+_, _*_}
+-- The Look-at-Me reading (RULES 3.15 to 3.17): L, how many of its bits are 1, and the lowest requesting station.
+use Prim.Native.Nat.{ℕ, zero, suc, _+_}
 use mathlib.Core.List.{List}
 use mathlib.Core.Bool.{Bool, cond}
-use lib.Dec.{ltb, eqb}
+use lib.Dec.{ltb}
 use Rattle.word24.specs.Word.{asBit, bitsOf}
 use Rattle.blocks.specs.Blocks.{blockOf}
 use Rattle.station.specs.Block.{requestOf}
@@ -25,11 +25,11 @@ unfoldable pub countTo : ℕ → List ℕ → ℕ
 countTo zero m = 0
 countTo (suc k) m = requests m (suc k) + countTo k m
 
--- the lowest of stations 1 to k that requests, or 0
-unfoldable pub firstTo : ℕ → List ℕ → ℕ
-firstTo zero m = 0
-firstTo (suc k) m = cond (eqb (firstTo k m) 0) (requests m (suc k) * suc k) (firstTo k m)
+-- the first of the k stations from n on that requests, or 0
+unfoldable pub firstFrom : (k n : ℕ) → List ℕ → ℕ
+firstFrom zero n m = 0
+firstFrom (suc k) n m = cond (isRequesting m n) n (firstFrom k (suc n) m)
 
 -- the reading of all 23 stations
 unfoldable pub lamOf : List ℕ → LamReading
-lamOf m = record { l = patternTo 23 m; count = countTo 23 m; first = firstTo 23 m }
+lamOf m = record { l = patternTo 23 m; count = countTo 23 m; first = firstFrom 23 1 m }

@@ -1,4 +1,4 @@
--- What reaches one station of the crate: a command, a front event, a module put in. Each is the block's own rule, under `withBlock`.
+-- What reaches one station of the crate (RULES 2.1, 3.1, 7.11): a command, a front event, a module put in. Each is the block's own rule, under `withBlock`.
 use Prim.Native.Nat.{ℕ}
 use mathlib.Core.List.{List}
 use Rattle.blocks.specs.Blocks.{blockOf, withBlock, inhibitOf}

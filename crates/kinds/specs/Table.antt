@@ -1,4 +1,4 @@
--- The table of kinds (01, 'Crate memory'), each column a list: 0 empty, 1 scaler, 2 output register, 3 input register, 4 buffer memory,
+-- The table of kinds (RULES 1.6, 1.11), each column a list: 0 empty, 1 scaler, 2 output register, 3 input register, 4 buffer memory,
 -- 5 up-down counter. And when a module is one of the table.
 use Prim.Native.Nat.{ℕ, _≤_}
 use mathlib.Core.Path.{_≡_}

@@ -1,5 +1,5 @@
 -- Lists of steps: what a list leaves and gives back, what a rearrangement of a list is, the law of one step, and when two lists end alike. The claim
--- that joins them, `Whole.regroup`, holds for any steps that obey the law. (01, "Steps that touch stations" and "Inspection of the contracts", 4)
+-- that joins them, `Whole.regroup`, holds for any steps that obey the law. (RULES 5.7 to 5.12)
 -- Of the steps four things are given:
 --   does m s     the memory that step s leaves, from the memory m
 --   gives m s    what it gives back: its whole answer, and its buffer

@@ -4,16 +4,30 @@ use mathlib.Core.Path.{_≡_}
 use mathlib.Core.List.{List}
 use lib.ListN.{getD}
 use Rattle.regroup.specs.Lists.{Rearranged}
-use Rattle.controller.specs.Steps.{touches}
+use Rattle.controller.specs.Steps.{Order, touches}
 use Rattle.controller.specs.Regrouping.{beyond}
 use Rattle.lists.specs.Words.{part, ordersOf}
 
--- the second list, as it is lent, is the rearrangement p of the first
-abbrev pub RearrangedWords : (s1 b1 : List ℕ) (c1 : ℕ) (s2 b2 : List ℕ) (c2 : ℕ) (p : List ℕ) → Type 0
-RearrangedWords s1 b1 c1 s2 b2 c2 p = Rearranged touches beyond (ordersOf s1 b1 c1) (ordersOf s2 b2 c2) p
+-- a list as it is lent: so many steps, their words and the words of their buffers
+abbrev pub lent : (count : ℕ) (steps buffers : List ℕ) → List Order
+lent count steps buffers = ordersOf steps buffers count
 
--- the crates end alike, and so do, place by place, the four words of each answer and the 512 words of each buffer
-abbrev pub AlikeWords : (m1 a1 b1 m2 a2 b2 : List ℕ) (c2 : ℕ) (p : List ℕ) → Type 0
-AlikeWords m1 a1 b1 m2 a2 b2 c2 p =
-    (m2 ≡ m1)
-    × ((k : ℕ) → k < c2 → (part 4 a2 k ≡ part 4 a1 (getD p k 0)) × (part 512 b2 k ≡ part 512 b1 (getD p k 0)))
+-- the second list is the rearrangement p of the first
+abbrev pub RearrangedWords : (first second : List Order) (p : List ℕ) → Type 0
+RearrangedWords first second p = Rearranged touches beyond first second p
+
+-- what a run leaves: the crate, the words of the answers and the words of the buffers
+pub record Left : Type 0 where
+  pub memory : List ℕ
+  pub answers : List ℕ
+  pub buffers : List ℕ
+
+abbrev pub left : (memory answers buffers : List ℕ) → Left
+left m a b = record { memory = m; answers = a; buffers = b }
+
+-- the crates end alike, and so do, at each of the second list's places, the four words of the answer and the 512 words of the buffer
+abbrev pub AlikeWords : (first second : Left) (count : ℕ) (p : List ℕ) → Type 0
+AlikeWords x y count p =
+    (y .memory ≡ x .memory)
+    × ((k : ℕ) → k < count
+    → (part 4 (y .answers) k ≡ part 4 (x .answers) (getD p k 0)) × (part 512 (y .buffers) k ≡ part 512 (x .buffers) (getD p k 0)))

@@ -42,4 +42,4 @@ pub record PutLines (us ws before after : List ℕ) (next : ℕ) : Type 0 where
   pub all-stations : (length stations ≡ 23) × EachParts us ws 1 stations
   pub all-refused : (length refused ≡ refusals) × EachParts us ws 24 refused
   pub put : Put before 0 (runsText (runs 1 stations) ++ refusalsText 1 refused) after next
-  pub short : next ≤ 80 * 35
+  pub short : next ≤ 80 * (24 + refusals)

@@ -1,4 +1,4 @@
--- The lines of run and crate files: the text of each step and of each module, and what a reading of a line claims. These are the
+-- The lines of run and crate files (RULES 7.1 to 7.4, 7.7): the text of each step and of each module, and what a reading of a line claims. These are the
 -- definitions to lay beside the paper; `Read` is an executable reader, which the claims here hold to them.
 use Prim.Native.Nat.{ℕ, _<_}
 use mathlib.Core.Path.{_≡_}

@@ -1,4 +1,4 @@
--- What is printed of one step, and of a crate line that is refused (01, 'Crate and run files').
+-- What is printed of one step, and of a crate line that is refused (RULES 7.12 to 7.20).
 use Prim.Native.Nat.{ℕ}
 use mathlib.Core.List.{List, [], _∷_, _++_}
 use lib.ListN.{take}

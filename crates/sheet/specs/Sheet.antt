@@ -1,4 +1,4 @@
--- The sheet: what the program prints of the bytes of crate.txt and run.txt (01, 'Crate and run files').
+-- The sheet: what the program prints of the bytes of crate.txt and run.txt (RULES 7.9 to 7.13).
 use Prim.Native.Nat.{ℕ, _+_}
 use mathlib.Core.List.{List, [], _∷_, _++_, map}
 use lib.ListN.{replicate}

@@ -1,4 +1,4 @@
--- What X, Q and R may be (01, 'The 32 functions'): a command is accepted or not, Q is 0 or 1, and R has 24 bits.
+-- What X, Q and R may be (RULES 2.1, 2.28, 2.29): a command is accepted or not, Q is 0 or 1, and R has 24 bits.
 use Prim.Native.Nat.{ℕ, _<_, _^_}
 use mathlib.Core.Path.{_≡_}
 use mathlib.Core.List.{List}

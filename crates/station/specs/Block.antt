@@ -1,4 +1,4 @@
--- The block of one station (01, 'Crate memory'): its 32 words, and when a block is fit.
+-- The block of one station (RULES 1.4, 1.5, 1.8 to 1.13): its 32 words, and when a block is fit.
 use Prim.Native.Nat.{ℕ, _+_, _-_, _<_, _≤_, _^_, _%_}
 use mathlib.Core.Path.{_≡_}
 use mathlib.Core.List.{List, [], _∷_, _++_}

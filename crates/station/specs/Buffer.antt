@@ -1,4 +1,4 @@
--- The buffer memory: kind 4, Group 1 commands at A = 0 (01, 'The 32 functions'). It holds its words from head on, modulo 16.
+-- The buffer memory: kind 4, Group 1 commands at A = 0 (RULES 2.13 to 2.17). It holds its words from head on, modulo 16.
 use Prim.Native.Nat.{ℕ, _+_, _-_, _%_, _^_}
 use mathlib.Core.List.{List}
 use mathlib.Core.Bool.{cond}

@@ -1,4 +1,4 @@
--- The 32 functions: what a command with subaddress A, function F and write word W does at a station.
+-- The 32 functions (RULES 2.1, 2.28, 2.30): what a command with subaddress A, function F and write word W does at a station.
 use Prim.Native.Nat.{ℕ}
 use mathlib.Core.List.{List, [], _∷_}
 use Rattle.kinds.specs.Cases.{Case, _does_, caseOf}

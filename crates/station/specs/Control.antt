@@ -1,4 +1,4 @@
--- The common controls at a station (01, 'Front panel and common controls'), and the block of a module just put in.
+-- The common controls at a station (RULES 3.11, 3.12), and the block of a module just put in.
 use Prim.Native.Nat.{ℕ, zero, suc}
 use mathlib.Core.List.{List, _∷_}
 use lib.ListN.{replicate}

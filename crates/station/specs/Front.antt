@@ -1,4 +1,4 @@
--- A front event at a station, given Inhibit I (01, 'Front panel and common controls').
+-- A front event at a station, given Inhibit I (RULES 3.1 to 3.10).
 use Prim.Native.Nat.{ℕ, _+_, _%_}
 use mathlib.Core.List.{List, [], _∷_}
 use mathlib.Core.Bool.{cond}

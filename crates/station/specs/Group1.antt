@@ -1,4 +1,4 @@
--- Group 1: the registers (01, 'The 32 functions'). Accepted at A below r.
+-- Group 1: the registers (RULES 2.2, 2.5 to 2.12). Accepted at A below r.
 use Prim.Native.Nat.{ℕ}
 use mathlib.Core.List.{List, [], _∷_}
 use mathlib.Core.Bool.{cond, _&&_}

@@ -1,4 +1,4 @@
--- Group 2: the whole status and mask (01, 'The 32 functions'). Accepted where s is above 0, at the subaddresses named.
+-- Group 2: the whole status and mask (RULES 2.4, 2.22 to 2.27). Accepted where s is above 0, at the subaddresses named.
 use Prim.Native.Nat.{ℕ}
 use mathlib.Core.List.{List, [], _∷_}
 use lib.Dec.{ltb}

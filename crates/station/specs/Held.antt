@@ -1,4 +1,4 @@
--- What a buffer memory holds (01, 'Crate memory'): its words from head on, modulo 16, and 0 in the unfilled places.
+-- What a buffer memory holds (RULES 1.12): its words from head on, modulo 16, and 0 in the unfilled places.
 use Prim.Native.Nat.{ℕ, _+_, _<_, _≤_, _%_}
 use mathlib.Core.Path.{_≡_}
 use mathlib.Core.Bool.{true}

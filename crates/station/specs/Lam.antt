@@ -1,4 +1,4 @@
--- LAM commands (01, 'The 32 functions'): one source each, accepted at A below s.
+-- LAM commands (RULES 2.3, 2.18 to 2.21): one source each, accepted at A below s.
 use Prim.Native.Nat.{ℕ}
 use mathlib.Core.List.{List}
 use lib.Dec.{ltb}

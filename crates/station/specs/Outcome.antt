@@ -1,4 +1,4 @@
--- What a command comes to: the block that it leaves, and its answer X, Q and R.
+-- What a command comes to (RULES 2.29): the block that it leaves, and its answer X, Q and R.
 use Prim.Native.Nat.{ℕ}
 use mathlib.Core.List.{List}
 use mathlib.Core.Bool.{Bool, cond}

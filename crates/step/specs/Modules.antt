@@ -1,4 +1,4 @@
--- When a crate line is refused: its station, then its order after the line before, then its kind and register count.
+-- When a crate line is refused (RULES 6.2, 6.10, 6.11, 6.19): its station, then its order after the line before, then its kind and register count.
 use Prim.Native.Nat.{ℕ}
 use mathlib.Core.Bool.{Bool, _&&_}
 use lib.Dec.{leb, ltb}

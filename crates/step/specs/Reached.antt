@@ -1,4 +1,4 @@
--- Which stations a step touches, in 01's words ('Steps that touch stations'); `Touches` tests it.
+-- Which stations a step touches, in plain words (RULES 5.2 to 5.5); `Touches` tests it.
 use Prim.Native.Nat.{ℕ, _≤_}
 use mathlib.Core.Path.{_≡_}
 use mathlib.Core.Bool.{true}

@@ -1,4 +1,4 @@
--- What is sent back: the number of each row of the table of refusals.
+-- What is sent back (RULES 6.1 to 6.11): the number of each row of the table of refusals.
 use Prim.Native.Nat.{ℕ}
 use Rattle.step.specs.declared.Refusal.{Refusal}
 use Rattle.step.specs.declared.Refusal.the-variants.{Garbled, NoSuchStation, NoSuchSubaddress, NoSuchFunction, OverwideWord, CrossedRange, BadLength}

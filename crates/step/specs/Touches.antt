@@ -1,4 +1,4 @@
--- Steps that touch stations: which stations a step reaches by its fields, and which it touches, a refused step none.
+-- Steps that touch stations (RULES 5.2 to 5.5): which stations a step reaches by its fields, and which it touches, a refused step none.
 use Prim.Native.Nat.{ℕ}
 use mathlib.Core.Bool.{Bool, true, false, _&&_}
 use mathlib.Core.List.{List}

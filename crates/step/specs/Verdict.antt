@@ -1,4 +1,4 @@
--- When a step is refused: each row of the table of refusals is said once, as a test with what follows it.
+-- When a step is refused (RULES 6.2 to 6.8, 6.13 to 6.18): each row of the table of refusals is said once, as a test with what follows it.
 -- The verdict on a step is then the list of its fields from left to right, the buffer last.
 use Prim.Native.Nat.{ℕ}
 use mathlib.Core.Bool.{Bool, true, false, _&&_, _||_}

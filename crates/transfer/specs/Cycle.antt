@@ -1,4 +1,4 @@
--- What the block transfers share (01, 'Block transfers'): a cycle is one command, its word is stored when Q = 1, X is not looked at; and what a
+-- What the block transfers share (RULES 4.1, 4.2, 4.12, 4.13): a cycle is one command, its word is stored when Q = 1, X is not looked at; and what a
 -- transfer answers and leaves in the buffer.
 use mathlib.Core.Bool.{true, false}
 use mathlib.Core.List.{List, [], _∷_, _++_}

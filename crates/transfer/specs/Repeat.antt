@@ -1,4 +1,4 @@
--- Repeat (N, A, limit, tries) (01, 'Block transfers'): command N, A until the limit is reached or the cycles equal tries.
+-- Repeat (N, A, limit, tries) (RULES 4.9): command N, A until the limit is reached or the cycles equal tries.
 use mathlib.Core.Bool.{true, false}
 use mathlib.Core.List.{List, []}
 use Prim.Native.Nat.{ℕ, zero, suc, _+_}

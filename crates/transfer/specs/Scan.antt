@@ -1,4 +1,4 @@
--- Scan (N, A, to, limit) (01, 'Block transfers'): while N is at most `to` and fewer than `limit` words are stored, command N, A.
+-- Scan (N, A, to, limit) (RULES 4.3 to 4.7): while N is at most `to` and fewer than `limit` words are stored, command N, A.
 use mathlib.Core.Bool.{true, false}
 use mathlib.Core.List.{List, []}
 use Prim.Native.Nat.{ℕ, zero, suc, _+_, _*_, _-_}

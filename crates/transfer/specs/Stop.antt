@@ -1,4 +1,4 @@
--- Stop (N, A, limit) (01, 'Block transfers'): command N, A until the limit is reached or Q = 0.
+-- Stop (N, A, limit) (RULES 4.10): command N, A until the limit is reached or Q = 0.
 use mathlib.Core.Bool.{true, false}
 use mathlib.Core.List.{List, []}
 use Prim.Native.Nat.{ℕ, zero, suc, _+_}

@@ -1,4 +1,4 @@
--- The commands that a scan makes, in their order, beside `scanOf` (01, 'Block transfers'); so that it can be said where a scan has been.
+-- The commands that a scan makes, in their order, beside `scanOf` (RULES 4.8); so that it can be said where a scan has been.
 use Prim.Native.Nat.{ℕ, _+_, _-_, _≤_, _<_}
 use mathlib.Core.Path.{_≡_}
 use mathlib.Core.Bool.{cond}

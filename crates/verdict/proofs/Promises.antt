@@ -19,8 +19,9 @@ use Rattle.step.specs.declared.Refusal.the-variants.{UnfitCrate}
 use Rattle.step.specs.declared.Reading.{Reading}
 use Rattle.step.specs.declared.Verdict.{Verdict}
 use Rattle.step.specs.declared.Verdict.the-variants.{Fine, Refuse}
-use Rattle.controller.specs.Steps.{Order, order, Out, Performed, refused, judgedOf, doneOf, stepOf, leaves, gives, touches}
+use Rattle.controller.specs.Steps.{Order, order, Out, Performed, refused, readingDone, doneOf, stepOf, leaves, gives, touches}
 use Rattle.controller.specs.Regrouping.{beyond}
+use Rattle.controller.proofs.Sentences.{refused-reading}
 use Rattle.controller.proofs.StepLaws.{crate-regroup}
 use Rattle.lists.specs.Words.{readingOf, part, orderAt, ordersOf}
 use Rattle.lists.proofs.Parts.{part-long}
@@ -36,10 +37,9 @@ done-counted : (m : List ℕ) (r : Reading) (b : List ℕ) → length b ≡ 512 
 unfolding doneOf
 done-counted m r b l = go (verdictOf r lent) refl
   where
-    go : (v : Verdict) → verdictOf r lent ≡ v → judgedOf (verdictOf (counted r) b) m (counted r) b ≡ judgedOf (verdictOf r b) m r b
-    go Fine e = ap (λ (t : Reading). judgedOf (verdictOf t b) m t b) (counted-fine r e)
-    go (Refuse q) e =
-        ap (λ (t : Reading). judgedOf (verdictOf t b) m t b) (counted-refused r q e) ∙ sym (ap (λ (v : Verdict). judgedOf v m r b) (judged-lent r b l ∙ e))
+    go : (v : Verdict) → verdictOf r lent ≡ v → readingDone m (counted r) b ≡ readingDone m r b
+    go Fine e = ap (λ (t : Reading). readingDone m t b) (counted-fine r e)
+    go (Refuse q) e = ap (λ (t : Reading). readingDone m t b) (counted-refused r q e) ∙ sym (refused-reading m r b q (judged-lent r b l ∙ e))
 
 step-counted : (m : List ℕ) (r : Reading) (b : List ℕ) → length b ≡ 512 → stepOf m (order (counted r) b) ≡ stepOf m (order r b)
 unfolding stepOf

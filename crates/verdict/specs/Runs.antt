@@ -6,7 +6,7 @@ use lib.ListN.{length}
 use Rattle.step.specs.declared.Verdict.the-variants.{Fine}
 use Rattle.lists.specs.Words.{part}
 use Rattle.lists.specs.Runs.{Ran, listOf}
-use Rattle.rehearsal.specs.Pairs.{RearrangedWords, AlikeWords}
+use Rattle.rehearsal.specs.Pairs.{lent, left, RearrangedWords, AlikeWords}
 use Rattle.verdict.specs.Counted.{count}
 use Rattle.verdict.specs.Compared.{Lawful, LentAlike}
 use Rattle.verdict.specs.declared.Comparison.{Comparison}
@@ -18,7 +18,7 @@ runOf m us answers buffers = listOf m (count us) us answers buffers
 
 -- the two runs leave the same memory and, place by place, the same words of answer and of buffer
 abbrev pub AlikeRuns : Ran → Ran → (count : ℕ) → (p : List ℕ) → Type 0
-AlikeRuns x y c p = AlikeWords (x .memory) (x .answers) (x .buffers) (y .memory) (y .answers) (y .buffers) c p
+AlikeRuns x y c p = AlikeWords (left (x .memory) (x .answers) (x .buffers)) (left (y .memory) (y .answers) (y .buffers)) c p
 
 -- The second list is the rearrangement p of the first, a refused step counted by its number; so where both are run from one memory, with buffers handed as p
 -- says, and neither run is refused, the two runs end alike.
@@ -32,7 +32,7 @@ SameRuns us ws =
 -- whatever buffers of 512 words the steps are handed
 abbrev pub NeverRearranged : List ℕ → List ℕ → Type 0
 NeverRearranged us ws =
-    (b1 b2 p : List ℕ) → 512 * count us ≤ length b1 → 512 * count ws ≤ length b2 → RearrangedWords us b1 (count us) ws b2 (count ws) p → ⊥
+    (b1 b2 p : List ℕ) → 512 * count us ≤ length b1 → 512 * count ws ≤ length b2 → RearrangedWords (lent (count us) us b1) (lent (count ws) ws b2) p → ⊥
 
 -- what a comparison says of the runs
 abbrev pub ComparedRuns : List ℕ → List ℕ → Comparison → Type 0

@@ -1,4 +1,4 @@
--- The up-down counter over the integers (document 01, "Front panel and common controls"). A word x holds the signed number `signedOf x`.
+-- The up-down counter over the integers (RULES 3.6, 3.7). A word x holds the signed number `signedOf x`.
 -- An event v takes a register from old to `mod24 (exactSum old v)`, and sets the status bit where `raisesAt old (exactSum old v)`.
 -- proofs/CounterLaws.antt shows that `signedOf` stays in the span and loses nothing (signed-span, signed-back), and that `mod24` is the
 -- remainder by 2^24 (mod24-lt, mod24-congruent).

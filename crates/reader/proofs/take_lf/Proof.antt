@@ -1,8 +1,6 @@
 -- `take_lf` meets its contract: where lines are still read, an LF ends the line; elsewhere it changes nothing.
 use native.Mathlib.Omega.{arith}
 use mathlib.Core.Path.{refl, _∙_}
-use denote.Ref.{now}
-use Rattle.reader.specs.Reading.{stateOf}
 use Rattle.reader.proofs.ReadingLaws.{step-over, step-stop, step-end}
 use borrow.Author.Needs.{needs}
 use Rattle.reader.proofs.take_lf.Statement.{statement}
