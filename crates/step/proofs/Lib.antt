@@ -4,3 +4,4 @@ pub mod Modules
 pub mod Numbers
 pub mod Touches
 pub mod ReachedLaws
+pub mod Rows

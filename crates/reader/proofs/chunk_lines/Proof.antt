@@ -32,37 +32,37 @@ loop-holds : tie.Need-loop-holds Inv-loop μ-loop
 loop-holds c = (omega arith, refl, refl, refl, omega arith, omega arith, (c .before .before .before .before .pre .fit), λ h. omega arith, refl)
 
 same-length : tie.Need-same-length Inv-loop μ-loop
-same-length c = omega arith
+same-length c = c .before .before .loop .inv .1
 
 same-length-2 : tie.Need-same-length-2 Inv-loop μ-loop
-same-length-2 c = omega arith
+same-length-2 c = c .before .before .loop .inv .2
 
 same-length-3 : tie.Need-same-length-3 Inv-loop μ-loop
-same-length-3 c = omega arith
+same-length-3 c = c .before .before .loop .inv .3
 
 returns : tie.Need-returns Inv-loop μ-loop
 returns c = let l = (c .before .before .loop) in (
   l .inv .8,
-  (record { filled = omega arith; lined = omega arith; within = omega arith; fit = l .inv .6 }, (l .inv .0, λ h k. omega arith)),
+  (record { filled = l .inv .4; lined = omega arith; within = l .inv .5; fit = l .inv .6 }, (l .inv .0, λ h k. omega arith)),
 )
 
 sub-if2 : tie.Need-sub-if2 Inv-loop μ-loop
 sub-if2 c = omega arith
 
 same-length-4 : tie.Need-same-length-4 Inv-loop μ-loop
-same-length-4 c = omega arith
+same-length-4 c = c .before .before .before .before .loop .inv .1
 
 same-length-5 : tie.Need-same-length-5 Inv-loop μ-loop
-same-length-5 c = omega arith
+same-length-5 c = c .before .before .before .before .loop .inv .2
 
 same-length-6 : tie.Need-same-length-6 Inv-loop μ-loop
-same-length-6 c = omega arith
+same-length-6 c = c .before .before .before .before .loop .inv .3
 
 returns-2 : tie.Need-returns-2 Inv-loop μ-loop
 returns-2 c = let l = (c .before .before .before .before .loop) in (
   l .inv .8,
   (
-    record { filled = omega arith; lined = omega arith; within = omega arith; fit = l .inv .6 },
+    record { filled = l .inv .4; lined = omega arith; within = l .inv .5; fit = l .inv .6 },
     (l .inv .0, λ h k. begun (l .i) _ (l .r .at) (length (l .out)) (l .inv .7) (omega arith) (omega arith)),
   ),
 )
@@ -86,13 +86,13 @@ take-span-requires c κs = let entry = (c .before .before .before .before .befor
     (omega arith, no-lf (entry .text .now) (loop .i) (found .result) (found .ensures))
 
 same-length-7 : tie.Need-same-length-7 Inv-loop μ-loop
-same-length-7 c = omega arith
+same-length-7 c = (c .before .before .take-span .kept) .1 .1 .0 ∙ (c .before .before .before .before .before .before .before .before .before .before .before .loop .inv .1)
 
 same-length-8 : tie.Need-same-length-8 Inv-loop μ-loop
-same-length-8 c = omega arith
+same-length-8 c = c .before .before .before .before .before .before .before .before .before .before .before .loop .inv .2
 
 same-length-9 : tie.Need-same-length-9 Inv-loop μ-loop
-same-length-9 c = omega arith
+same-length-9 c = c .before .before .before .before .before .before .before .before .before .before .before .loop .inv .3
 
 returns-3 : tie.Need-returns-3 Inv-loop μ-loop
 returns-3 c = let a = (c .before .before .before .before .before .before .before .before .before .before .before .before .before .before .before .before .args) in
@@ -138,17 +138,19 @@ loop-again : tie.Need-loop-again Inv-loop μ-loop
 loop-again c =
     let a = (c .before .before .before .before .before .before .before .before .before .before .before .before .before .before .before .before .before .before
     .before .before .before .before .args) in
+    let pre = (c .before .before .before .before .before .before .before .before .before .before .before .before .before .before .before .before .before .before
+    .before .before .before .before .pre) in
     let l = (c .before .before .before .before .before .before .before .before .before .before .before .before .before .before .before .before .before .loop) in
     let e = (c .before .before .before .before .before .before .before .before .before .before .before .before .find-lf .result) in
     let d = (c .before .before .before .before .before .before .take-line .ensures) in
     let rest = take (length (a .text .now) - l .i) (drop (l .i) (a .text .now)) in
     let s₀ = stateOf (a .s) (a .line .now) (a .memory .now) (a .out .now) in (
       omega arith,
-      omega arith,
-      omega arith,
-      omega arith,
-      omega arith,
-      omega arith,
+      d .1 .lined ∙ sym (pre .lined),
+      d .1 .fit .size ∙ sym (pre .fit .size),
+      (c .before .before .before .before .before .before .take-line .kept) .1 .1 .1 .1 .1 .0 ∙ l .inv .3,
+      d .1 .filled,
+      d .1 .within,
       d .1 .fit,
       λ h. omega arith,
       d .0
@@ -157,18 +159,18 @@ loop-again c =
     )
 
 same-length-10 : tie.Need-same-length-10 Inv-loop μ-loop
-same-length-10 c = omega arith
+same-length-10 c = c .before .loop .inv .1
 
 same-length-11 : tie.Need-same-length-11 Inv-loop μ-loop
-same-length-11 c = omega arith
+same-length-11 c = c .before .loop .inv .2
 
 same-length-12 : tie.Need-same-length-12 Inv-loop μ-loop
-same-length-12 c = omega arith
+same-length-12 c = c .before .loop .inv .3
 
 returns-4 : tie.Need-returns-4 Inv-loop μ-loop
 returns-4 c = let l = (c .before .loop) in (
   l .inv .8,
-  (record { filled = omega arith; lined = omega arith; within = omega arith; fit = l .inv .6 }, (l .inv .0, λ h k. omega arith)),
+  (record { filled = l .inv .4; lined = omega arith; within = l .inv .5; fit = l .inv .6 }, (l .inv .0, λ h k. omega arith)),
 )
 
 pub chunk-lines-spec : {M : Type 1} → statement M

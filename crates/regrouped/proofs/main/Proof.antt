@@ -1,7 +1,7 @@
 -- `main` meets its contract: the names lie within their buffers, and the other arrays are as long as `compare_files` asks.
 use borrow.Author.Tests.{not-false}
 use mathlib.Core.Path.{sym}
-use native.Mathlib.Omega.{arith}
+use native.Mathlib.Nat.{le-of-eq}
 use Prim.Native.Nat.{ℕ}
 use lib.ListN.{length-replicate}
 use lib.Seq.{length-take-le}
@@ -68,10 +68,10 @@ slice-aggregate-compare-files-4 : tie.Need-slice-aggregate-compare-files-4
 slice-aggregate-compare-files-4 c = search needs
 
 slice-aggregate-compare-files-5 : tie.Need-slice-aggregate-compare-files-5
-slice-aggregate-compare-files-5 c = search needs
+slice-aggregate-compare-files-5 c = sym (length-replicate {A = ℕ} 599994 0)
 
 slice-aggregate-compare-files-6 : tie.Need-slice-aggregate-compare-files-6
-slice-aggregate-compare-files-6 c = search needs
+slice-aggregate-compare-files-6 c = sym (length-replicate {A = ℕ} 599994 0)
 
 slice-aggregate-compare-files-7 : tie.Need-slice-aggregate-compare-files-7
 slice-aggregate-compare-files-7 c = search needs
@@ -79,7 +79,7 @@ slice-aggregate-compare-files-7 c = search needs
 compare-files-requires : tie.Need-compare-files-requires
 compare-files-requires c κs =
     let buffer = (c .before .before .before .before .before .before .before .before .before .before .before .before .before .before .before .before .before .before .buffer) in
-    (length-replicate {A = ℕ} 81 0, length-replicate {A = ℕ} 599994 0, length-replicate {A = ℕ} 599994 0, omega (arith, buffer .ensures))
+    (length-replicate {A = ℕ} 81 0, length-replicate {A = ℕ} 599994 0, length-replicate {A = ℕ} 599994 0, le-of-eq (buffer .ensures))
 
 returns-2 : tie.Need-returns-2
 returns-2 c = search needs

@@ -1,7 +1,7 @@
 -- `rehearse` meets its contract: a refused crate file ends the work (`handed-crate`), else the run file follows it (`handed-both`).
 use Rattle.shell.proofs.HandedLaws.{failed, handed-crate, handed-both, handed-as, start-is, start-held, second-held}
 use borrow.Author.Tests.{not-false}
-use mathlib.Core.Path.{refl}
+use mathlib.Core.Path.{refl, _∙_}
 use native.Mathlib.Omega.{arith}
 use borrow.Author.Needs.{needs}
 use Rattle.shell.proofs.rehearse.Statement.{statement}
@@ -62,16 +62,28 @@ same-length-9 c =
     let far = c .before .before .before .before .before .before .before .before .before .before .before .before .before .before .before .before .before .before in
     let built = (far .before .before .before .before .before .before .before .before .before .before .take-file) in
     let ran = (c .before .before .before .before .before .before .before .before .before .before .take-file2) in
-    omega (arith, built .kept, ran .kept)
+    ran .kept .1 .0 ∙ built .kept .1 .0
 
 same-length-10 : tie.Need-same-length-10
-same-length-10 c = search needs
+same-length-10 c =
+    let far = c .before .before .before .before .before .before .before .before .before .before .before .before .before .before .before .before .before .before in
+    let built = (far .before .before .before .before .before .before .before .before .before .before .take-file) in
+    let ran = (c .before .before .before .before .before .before .before .before .before .before .take-file2) in
+    ran .kept .1 .1 .1 .0 ∙ built .kept .1 .1 .1 .0
 
 same-length-11 : tie.Need-same-length-11
-same-length-11 c = search needs
+same-length-11 c =
+    let far = c .before .before .before .before .before .before .before .before .before .before .before .before .before .before .before .before .before .before in
+    let built = (far .before .before .before .before .before .before .before .before .before .before .take-file) in
+    let ran = (c .before .before .before .before .before .before .before .before .before .before .take-file2) in
+    ran .kept .1 .1 .1 .1 .0 ∙ built .kept .1 .1 .1 .1 .0
 
 same-length-12 : tie.Need-same-length-12
-same-length-12 c = search needs
+same-length-12 c =
+    let far = c .before .before .before .before .before .before .before .before .before .before .before .before .before .before .before .before .before .before in
+    let built = (far .before .before .before .before .before .before .before .before .before .before .take-file) in
+    let ran = (c .before .before .before .before .before .before .before .before .before .before .take-file2) in
+    ran .kept .1 .1 .1 .1 .1 .0 ∙ built .kept .1 .1 .1 .1 .1 .0
 
 returns-3 : tie.Need-returns-3
 returns-3 c = failed (c .before .before .before .before .before .before .before .before .before .before .take-file2 .result .ok) (c .if3 .taken)
@@ -84,28 +96,28 @@ same-length-13 c =
     let far = c .before .before .before .before .before .before .before .before .before .before .before .before .before .before .before .before .before .before in
     let built = (far .before .before .before .before .before .before .before .before .before .before .before .before .take-file) in
     let ran = (c .before .before .before .before .before .before .before .before .before .before .before .before .take-file2) in
-    omega (arith, built .kept, ran .kept)
+    ran .kept .1 .0 ∙ built .kept .1 .0
 
 same-length-14 : tie.Need-same-length-14
 same-length-14 c =
     let far = c .before .before .before .before .before .before .before .before .before .before .before .before .before .before .before .before .before .before in
     let built = (far .before .before .before .before .before .before .before .before .before .before .before .before .take-file) in
     let ran = (c .before .before .before .before .before .before .before .before .before .before .before .before .take-file2) in
-    omega (arith, built .kept, ran .kept)
+    ran .kept .1 .1 .1 .0 ∙ built .kept .1 .1 .1 .0
 
 same-length-15 : tie.Need-same-length-15
 same-length-15 c =
     let far = c .before .before .before .before .before .before .before .before .before .before .before .before .before .before .before .before .before .before in
     let built = (far .before .before .before .before .before .before .before .before .before .before .before .before .take-file) in
     let ran = (c .before .before .before .before .before .before .before .before .before .before .before .before .take-file2) in
-    omega (arith, built .kept, ran .kept)
+    ran .kept .1 .1 .1 .1 .0 ∙ built .kept .1 .1 .1 .1 .0
 
 same-length-16 : tie.Need-same-length-16
 same-length-16 c =
     let far = c .before .before .before .before .before .before .before .before .before .before .before .before .before .before .before .before .before .before in
     let built = (far .before .before .before .before .before .before .before .before .before .before .before .before .take-file) in
     let ran = (c .before .before .before .before .before .before .before .before .before .before .before .before .take-file2) in
-    omega (arith, built .kept, ran .kept)
+    ran .kept .1 .1 .1 .1 .1 .0 ∙ built .kept .1 .1 .1 .1 .1 .0
 
 returns-4 : tie.Need-returns-4
 returns-4 c =

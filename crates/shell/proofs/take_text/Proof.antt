@@ -5,7 +5,7 @@ use Rattle.reader.specs.Reading.{Held, Took, stateOf}
 use lib.Seq.{take-length}
 use lib.ListN.{length, take}
 use borrow.Author.Tests.{not-false}
-use mathlib.Core.Path.{_≡_, refl, ap, _∙_}
+use mathlib.Core.Path.{_≡_, refl, sym, ap, _∙_}
 use Prim.Native.Nat.{ℕ, _-_, _≤_}
 use borrow.Author.Needs.{needs}
 use native.Mathlib.Omega.{arith}
@@ -84,12 +84,14 @@ loop-again c =
     let if1 = (c .before .before .before .before .before .before .before .before .before .before .before .before .before .if1) in
     let chunk = (c .before .before .before .before .before .before .before .before .chunk-lines) in
     let r = rest (entry .text .now) (loop .from) in
+    let pre = (far .before .before .before .before .before .before .before .pre .0) in
+    let held = (chunk .ensures .1) .0 in
     let within = (chunk .ensures .1) .1 .0 in (
       omega (arith, r, within),
-      omega (arith, loop .inv .1),
-      omega (arith, loop .inv .2),
+      held .lined ∙ sym (pre .lined),
+      held .fit .size ∙ sym (pre .fit .size),
       omega (arith, loop .inv .3),
-      (chunk .ensures .1) .0,
+      held,
       took-as (pieces (entry .text .now) (loop .from) (chunk .result .next) (omega (arith, r, within)))
           (took-both (took-both (loop .inv .5) ((room .ensures .1) (not-false (room .result .ok) (if1 .left)))) (took-kept (chunk .ensures .0))),
     )

@@ -3,11 +3,12 @@
 use borrow.Author.Needs.{needs}
 use Rattle.step.proofs.judge_command.Statement.{statement}
 use Rattle.step.proofs.judge_command.Tie as tie
+use Rattle.step.proofs.Rows.{row-then}
 use Rattle.step.specs.Verdict.{commandVerdict}
 
 returns : tie.Need-returns
 unfolding commandVerdict
-returns c = cc
+returns c = search row-then
 
 pub judge-command-spec : {M : Type 1} → statement M
 judge-command-spec =

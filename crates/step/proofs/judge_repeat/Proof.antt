@@ -3,11 +3,12 @@
 use borrow.Author.Needs.{needs}
 use Rattle.step.proofs.judge_repeat.Statement.{statement}
 use Rattle.step.proofs.judge_repeat.Tie as tie
+use Rattle.step.proofs.Rows.{row-then}
 use Rattle.step.specs.Verdict.{repeatVerdict}
 
 returns : tie.Need-returns
 unfolding repeatVerdict
-returns c = cc
+returns c = search row-then
 
 pub judge-repeat-spec : {M : Type 1} → statement M
 judge-repeat-spec =

@@ -3,11 +3,12 @@
 use borrow.Author.Needs.{needs}
 use Rattle.step.proofs.judge_scan.Statement.{statement}
 use Rattle.step.proofs.judge_scan.Tie as tie
+use Rattle.step.proofs.Rows.{row-then}
 use Rattle.step.specs.Verdict.{scanVerdict}
 
 returns : tie.Need-returns
 unfolding scanVerdict
-returns c = cc
+returns c = search row-then
 
 pub judge-scan-spec : {M : Type 1} → statement M
 judge-scan-spec =

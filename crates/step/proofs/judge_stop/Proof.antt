@@ -3,11 +3,12 @@
 use borrow.Author.Needs.{needs}
 use Rattle.step.proofs.judge_stop.Statement.{statement}
 use Rattle.step.proofs.judge_stop.Tie as tie
+use Rattle.step.proofs.Rows.{row-then}
 use Rattle.step.specs.Verdict.{stopVerdict}
 
 returns : tie.Need-returns
 unfolding stopVerdict
-returns c = cc
+returns c = search row-then
 
 pub judge-stop-spec : {M : Type 1} → statement M
 judge-stop-spec =

@@ -1,6 +1,7 @@
 -- `count` meets its contract: `count24` gives the register's new word and whether the status bit is set, both of the exact sum.
 use mathlib.Core.Path.{sym, ap, _∙_}
 use borrow.Author.Needs.{needs}
+use native.Mathlib.Omega.{arith}
 use lib.ListN.{length, length-set}
 use Rattle.station.specs.Front.{countedOf}
 use Rattle.panel.proofs.front.count.Statement.{statement}
@@ -25,7 +26,7 @@ slice-write-b : tie.Need-slice-write-b
 slice-write-b c = search needs
 
 set-status-bit-requires : tie.Need-set-status-bit-requires
-set-status-bit-requires c κs = search needs
+set-status-bit-requires c κs = (simp length-set (c .before .before .before .before .before .pre .0 .long), omega arith)
 
 same-length : tie.Need-same-length
 same-length c = ap length (c .before .before .set-status-bit .ensures) ∙ simp length-set
