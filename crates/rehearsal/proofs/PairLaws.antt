@@ -24,7 +24,7 @@ use Rattle.controller.proofs.StepLaws.{law, crate-regroup}
 use Rattle.lists.specs.Words.{part, ordersOf}
 use Rattle.lists.specs.Runs.{joined, answerOf, bufferOf, Ran, ranOf, unrun, isEnough, listOf}
 use Rattle.lists.proofs.Orders.{Long, part-of, answers-long, buffers-long, orders-long, orders-length}
-use Rattle.rehearsal.specs.Pairs.{lent, left, RearrangedWords, AlikeWords}
+use Rattle.rehearsal.specs.Pairs.{RearrangedWords, AlikeWords}
 
 -- ---- a run that was not refused
 module _ (m : List ℕ) (count : ℕ) (ws ans bs m′ ans′ bs′ : List ℕ) (v : Verdict) where
@@ -76,7 +76,8 @@ module _ (m n s1 a1 b1 s2 a2 b2 : List ℕ) (c1 c2 : ℕ) (e : n ≡ m) (m1 z1 y
   abbrev ys : List Order
   ys = ordersOf s2 b2 c2
 
-  pub pair-alike : (p : List ℕ) → RearrangedWords (lent c1 s1 b1) (lent c2 s2 b2) p → AlikeWords (left m1 z1 y1) (left m2 z2 y2) c2 p
+  pub pair-alike : (p : List ℕ) → RearrangedWords xs ys p
+      → AlikeWords (record { verdict = v1; memory = m1; answers = z1; buffers = y1 }) (record { verdict = v2; memory = m2; answers = z2; buffers = y2 }) c2 p
   pair-alike p r = (h2 .memory ∙ ap (λ (x : List ℕ). run leaves x ys) e ∙ crate-regroup m (h1 .fit) xs ys p r .0 ∙ sym (h1 .memory), each)
     where
       d : Out

@@ -3,8 +3,9 @@ ghost use mathlib.Core.Path.{_≡_};
 ghost use mathlib.Core.List.{List};
 ghost use Prim.Native.Nat.{ℕ};
 ghost use Rattle.step.specs.declared.Verdict.{Verdict};
+ghost use Rattle.lists.specs.Words.{ordersOf};
 ghost use Rattle.lists.specs.Runs.{Ran, listOf};
-ghost use Rattle.rehearsal.specs.Pairs.{lent, left, RearrangedWords, AlikeWords};
+ghost use Rattle.rehearsal.specs.Pairs.{RearrangedWords, AlikeWords};
 use crate::list::run_list;
 use step::Verdict;
 
@@ -33,8 +34,9 @@ pub fn run_pair(
     ensures second { λ r. ⌜ listOf (now (m2 .entry)) c2 (now (s2 .entry)) (now (a2 .entry)) (now (b2 .entry))
         ≡ record { verdict = r .second; memory = now (m2 .exit); answers = now (a2 .exit); buffers = now (b2 .exit) } ⌝ }
     ensures alike { λ r. ⌜ (now (m2 .entry) ≡ now (m1 .entry) → r .first ≡ Verdict.Fine → r .second ≡ Verdict.Fine → (p : List ℕ)
-        → RearrangedWords (lent c1 (now (s1 .entry)) (now (b1 .entry))) (lent c2 (now (s2 .entry)) (now (b2 .entry))) p
-        → AlikeWords (left (now (m1 .exit)) (now (a1 .exit)) (now (b1 .exit))) (left (now (m2 .exit)) (now (a2 .exit)) (now (b2 .exit))) c2 p) ⌝ }
+        → RearrangedWords (ordersOf (now (s1 .entry)) (now (b1 .entry)) c1) (ordersOf (now (s2 .entry)) (now (b2 .entry)) c2) p
+        → AlikeWords (record { verdict = r .first; memory = now (m1 .exit); answers = now (a1 .exit); buffers = now (b1 .exit) })
+        (record { verdict = r .second; memory = now (m2 .exit); answers = now (a2 .exit); buffers = now (b2 .exit) }) c2 p) ⌝ }
 {
     let first = run_list(m1, c1, s1, a1, b1);
     let second = run_list(m2, c2, s2, a2, b2);

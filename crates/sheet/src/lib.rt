@@ -73,7 +73,7 @@ fn put_line(out: &mut [u8], at: usize, k: u32, answer: Answer) -> usize
     put_bytes(out, last, b"\n")
 }
 
-// Puts the line of one stored word.
+// Puts the line of one stored word: the number behind the five bytes of its key, then the key.
 fn put_word(out: &mut [u8], at: usize, w: u32) -> usize
     requires { ⌜ at + 16 ≤ length (now out) ⌝ }
     ensures { λ r. ⌜ Put (now (out .entry)) at (wordLine w) (now (out .exit)) r ⌝ }

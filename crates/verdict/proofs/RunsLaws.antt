@@ -21,7 +21,7 @@ use Rattle.lists.specs.Words.{readingOf, part, ordersOf}
 use Rattle.lists.specs.Runs.{joined, answerOf, bufferOf, listOf}
 use Rattle.lists.proofs.Parts.{part-long}
 use Rattle.lists.proofs.Orders.{Long, part-of, answers-long, buffers-long, orders-long, orders-length, order-at}
-use Rattle.rehearsal.specs.Pairs.{left, RearrangedWords, AlikeWords}
+use Rattle.rehearsal.specs.Pairs.{RearrangedWords, AlikeWords}
 use Rattle.rehearsal.proofs.PairLaws.{Went, list-went}
 use Rattle.verdict.specs.Counted.{lent, counted, touchesLent, count, stepAt, steps, past}
 use Rattle.verdict.specs.Compared.{Lawful, LentAlike, Promise, Compared}
@@ -75,7 +75,7 @@ module _ (us ws p : List ℕ) (r : Lawful us ws p) where
     long2 = buffers-long m ys (orders-long ws b2 (count ws) (count ws) l2 (omega arith))
 
     runs-alike : (m1 z1 y1 m2 z2 y2 : List ℕ) (v1 v2 : Verdict) → Went m (count us) us a1 b1 m1 z1 y1 v1 → Went m (count ws) ws a2 b2 m2 z2 y2 v2
-        → AlikeWords (left m1 z1 y1) (left m2 z2 y2) (count ws) p
+        → AlikeWords (record { verdict = v1; memory = m1; answers = z1; buffers = y1 }) (record { verdict = v2; memory = m2; answers = z2; buffers = y2 }) (count ws) p
     runs-alike m1 z1 y1 m2 z2 y2 v1 v2 h1 h2 = (
       h2 .memory ∙ alike .0 ∙ sym (h1 .memory),
       λ k h. (
@@ -158,7 +158,7 @@ pub calls-alike : (us ws m n a1 b1 a2 b2 m1 z1 y1 m2 z2 y2 w : List ℕ) (v1 v2 
     → listOf m (count us) us a1 b1 ≡ record { verdict = v1; memory = m1; answers = z1; buffers = y1 }
     → listOf n (count ws) ws a2 b2 ≡ record { verdict = v2; memory = m2; answers = z2; buffers = y2 }
     → n ≡ m → v1 ≡ Fine → v2 ≡ Fine → EachLent us b1 w → EachLent ws b2 w
-    → (p : List ℕ) × Lawful us ws p × AlikeWords (left m1 z1 y1) (left m2 z2 y2) (count ws) p
+    → (p : List ℕ) × Lawful us ws p × AlikeWords (record { verdict = v1; memory = m1; answers = z1; buffers = y1 }) (record { verdict = v2; memory = m2; answers = z2; buffers = y2 }) (count ws) p
 calls-alike us ws m n a1 b1 a2 b2 m1 z1 y1 m2 z2 y2 w v1 v2 c e1 e2 en f1 f2 x y =
     let q : Promise us ws = c .1 in
     let h : LentAlike us b1 ws b2 (q .0) = lent-equal us ws (q .0) (q .1) b1 b2 w x y in

@@ -4,9 +4,9 @@ use mathlib.Core.List.{List}
 use Prim.Native.Nat.{ℕ, _*_, _≤_, _<_}
 use lib.ListN.{length}
 use Rattle.step.specs.declared.Verdict.the-variants.{Fine}
-use Rattle.lists.specs.Words.{part}
+use Rattle.lists.specs.Words.{part, ordersOf}
 use Rattle.lists.specs.Runs.{Ran, listOf}
-use Rattle.rehearsal.specs.Pairs.{lent, left, RearrangedWords, AlikeWords}
+use Rattle.rehearsal.specs.Pairs.{RearrangedWords, AlikeWords}
 use Rattle.verdict.specs.Counted.{count}
 use Rattle.verdict.specs.Compared.{Lawful, LentAlike}
 use Rattle.verdict.specs.declared.Comparison.{Comparison}
@@ -16,23 +16,19 @@ use Rattle.verdict.specs.declared.Comparison.the-variants.{Same, Parted}
 abbrev pub runOf : (m us answers buffers : List ℕ) → Ran
 runOf m us answers buffers = listOf m (count us) us answers buffers
 
--- the two runs leave the same memory and, place by place, the same words of answer and of buffer
-abbrev pub AlikeRuns : Ran → Ran → (count : ℕ) → (p : List ℕ) → Type 0
-AlikeRuns x y c p = AlikeWords (left (x .memory) (x .answers) (x .buffers)) (left (y .memory) (y .answers) (y .buffers)) c p
-
 -- The second list is the rearrangement p of the first, a refused step counted by its number; so where both are run from one memory, with buffers handed as p
 -- says, and neither run is refused, the two runs end alike.
 abbrev pub SameRuns : List ℕ → List ℕ → Type 0
 SameRuns us ws =
     (p : List ℕ) × Lawful us ws p
     × ((m a1 b1 a2 b2 : List ℕ) → LentAlike us b1 ws b2 p → runOf m us a1 b1 .verdict ≡ Fine → runOf m ws a2 b2 .verdict ≡ Fine
-    → AlikeRuns (runOf m us a1 b1) (runOf m ws a2 b2) (count ws) p)
+    → AlikeWords (runOf m us a1 b1) (runOf m ws a2 b2) (count ws) p)
 
 -- no rearrangement of the steps themselves, with the same fields and the same buffer contents, keeps the order of any two that touch a station in common:
 -- whatever buffers of 512 words the steps are handed
 abbrev pub NeverRearranged : List ℕ → List ℕ → Type 0
 NeverRearranged us ws =
-    (b1 b2 p : List ℕ) → 512 * count us ≤ length b1 → 512 * count ws ≤ length b2 → RearrangedWords (lent (count us) us b1) (lent (count ws) ws b2) p → ⊥
+    (b1 b2 p : List ℕ) → 512 * count us ≤ length b1 → 512 * count ws ≤ length b2 → RearrangedWords (ordersOf us b1 (count us)) (ordersOf ws b2 (count ws)) p → ⊥
 
 -- what a comparison says of the runs
 abbrev pub ComparedRuns : List ℕ → List ℕ → Comparison → Type 0
