@@ -11,7 +11,7 @@ BEGIN {
     said["taken=1"] = "taken"
     said["taken=0"] = "not taken"
 
-    end2["op=scan"] = "past `to`"
+    end2["op=scan"] = end2["op=put"] = "past `to`"
     end2["op=repeat"] = "tries used up"
     end2["op=stop"] = "Q = 0"
 
@@ -26,7 +26,7 @@ BEGIN {
     meaning[11] = "out of order: the station is not above that of the line before"
 }
 
-$1 == "step" { row(run, "none of the nine forms") }
+$1 == "step" { row(run, "none of the ten forms") }
 
 $1 == "crate" {
     row(lines("crate.txt"), "not n= kind= r=")
@@ -60,7 +60,7 @@ function answer(line, misfit,    words) {
     if ($3 == "l") return "L=" $4 ", " requests($4, $6)
     if ($3 == "end") {
         words = ended($4, line) ": " counted($6, "word") " in " counted($8, "cycle")
-        return words stored($6)
+        return words (line ~ /^op=put / ? "" : stored($6))
     }
     if ($3 == "refused" && $4 in meaning) return "refused (" $4 "): " meaning[$4] ($4 == 1 ? ": " fault(line, misfit) : "")
     return substr($0, index($0, " ") + 1)
@@ -83,7 +83,7 @@ function counted(count, thing) {
     return count " " thing (count == 1 ? "" : "s")
 }
 
-# The words of a transfer: the sheet's next lines.
+# The words of a transfer: the sheet's next lines. A put has none.
 function stored(count,    words) {
     if (count > 0) words = ":"
     while (count-- > 0 && getline > 0 && /^word=/) words = words " " substr($0, 6)

@@ -1,9 +1,10 @@
 // Calls the library through its C functions on random arrays, and compares each call with the
 // crate of reference.rs: the number returned, and every word of the memory, answers and buffers.
 //   library SEED COUNT
-// makes COUNT calls, the same ones for the same seed. Ends with 0 when none differs, with 1 at the
-// first that does, after printing it; 2 means that the two numbers were not given.
-// What the calls have to do is written from document 01, include/pagontxu.h and docs/DECISIONS.md.
+// makes COUNT calls, the same ones for the same seed, after some puts of lent words that were worked out by hand.
+// Ends with 0 when none differs, with 1 at the first that does, after printing it; a put by hand that differs is a
+// panic; 2 means that the two numbers were not given.
+// What the calls have to do is written from document 01, request L1 of document 02, include/pagontxu.h and docs/DECISIONS.md.
 
 #[allow(dead_code)]
 #[path = "reference.rs"]
@@ -261,6 +262,8 @@ fn read_step(words: &[u32]) -> Option<Step> {
         7 => Some(Step::Scan([f1, f2, f3, f4, f5])),
         8 => Some(Step::Repeat([f1, f2, f3, f4, f5])),
         9 => Some(Step::Stop([f1, f2, f3, f4])),
+        10 => Some(Step::Put([f1, f2, f3, f4, f5])),
+        11 => Some(Step::PutLent([f1, f2, f3, f4])),
         _ => None,
     }
 }
@@ -270,7 +273,7 @@ fn run(memory: &mut [u32], step: Option<Step>, buffer: &mut [u32]) -> Result<[u3
     let step = step.ok_or(GARBLED)?;
     let mut model = load(memory);
     let mut words = Vec::new();
-    let answer = reference::run_step(&mut model, step, buffer.len(), &mut words)?;
+    let answer = reference::run_step(&mut model, step, buffer, &mut words)?;
     save(&model, memory);
     buffer[..words.len()].copy_from_slice(&words);
     Ok(match answer {
@@ -279,6 +282,7 @@ fn run(memory: &mut [u32], step: Option<Step>, buffer: &mut [u32]) -> Result<[u3
         Answer::Done => [3, 1, 0, 0],
         Answer::Looked(l, count, first) => [4, l, count, first],
         Answer::Transferred(transfer) => [5, transfer.end, words.len() as u32, transfer.cycles],
+        Answer::Wrote(transfer, used) => [6, transfer.end, used, transfer.cycles],
     })
 }
 
@@ -475,13 +479,13 @@ fn perhaps_past(chance: &mut Chance, good: u32, past: &[u32]) -> u32 {
     }
 }
 
-// A station, most often one with a module, and its register count.
-fn station(chance: &mut Chance, memory: &[u32]) -> (u32, u32) {
+// A station, most often one with a module of one of these kinds, and its register count.
+fn station(chance: &mut Chance, memory: &[u32], kinds: &[u32]) -> (u32, u32) {
     let mut n = chance.from(1, 23);
     for _ in 0..8 {
-        let r = memory.get(BLOCK * n as usize + 1).copied().unwrap_or(0);
-        if r > 0 || chance.percent(5) {
-            return (n, r.min(16));
+        let block = &memory[BLOCK * n as usize..];
+        if kinds.contains(&block[0]) || chance.percent(5) {
+            return (n, block[1]);
         }
         n = n % 23 + 1;
     }
@@ -504,20 +508,23 @@ fn subaddress(chance: &mut Chance, r: u32, f: u32) -> u32 {
 fn any_step(chance: &mut Chance, memory: &[u32]) -> [u32; STEP] {
     let mut step = [0; STEP];
     step.fill_with(|| chance.word());
-    let (n, r) = station(chance, memory);
-    let n_word = perhaps_past(chance, n, &[0, 24, 25, 26, 28, 30, 31, 32]);
     let kind = match chance.below(100) {
-        0..=34 => 1,
-        35..=64 => 2,
-        65 => 3,
-        66..=67 => 4,
-        68..=73 => 5,
-        74..=77 => 6,
-        78..=85 => 7,
-        86..=90 => 8,
-        91..=95 => 9,
-        _ => chance.pick(&[0, 1, 2, 3, 4, 5, 6, 7, 8, 9, 10, 11, 255, 256, 257, 1 << 16 | 1, 1 << 31 | 3, u32::MAX]),
+        0..=31 => 1,
+        32..=57 => 2,
+        58 => 3,
+        59..=60 => 4,
+        61..=66 => 5,
+        67..=70 => 6,
+        71..=78 => 7,
+        79..=83 => 8,
+        84..=88 => 9,
+        89..=91 => 10,
+        92..=95 => 11,
+        _ => chance.pick(&[0, 1, 2, 3, 4, 5, 6, 7, 8, 9, 10, 11, 12, 255, 256, 257, 1 << 16 | 1, 1 << 31 | 3, u32::MAX]),
     };
+    let writes = (kind == 10 || kind == 11) && chance.percent(60);
+    let (n, r) = station(chance, memory, if writes { &[2, 5] } else { &[1, 2, 3, 4, 5] });
+    let n_word = perhaps_past(chance, n, &[0, 24, 25, 26, 28, 30, 31, 32]);
     step[0] = kind;
     match kind {
         1 => {
@@ -565,6 +572,21 @@ fn any_step(chance: &mut Chance, memory: &[u32]) -> [u32; STEP] {
                 _ => step[4] = limit,
             }
         }
+        10 | 11 => {
+            let a = if chance.percent(50) { subaddress(chance, r, 16) } else { 0 };
+            let to = chance.from(n, 23);
+            let to = chance.pick(&[n, to, to, 23]);
+            let (some, any) = (chance.from(1, 64), chance.from(1, 512));
+            let limit = chance.pick(&[1, 2, 3, 16, 17, some, some, any, 512]);
+            let w = word24(chance);
+            step[1] = n_word;
+            step[2] = perhaps_past(chance, a, &[16, 17, 31, 255]);
+            step[3] = perhaps_past(chance, to, &[0, n - 1, n / 2, 24, 25, 255]);
+            step[4] = perhaps_past(chance, limit, &[0, 513, 514, 1024, u32::MAX]);
+            if kind == 10 {
+                step[5] = perhaps_past(chance, w, &[1 << 24, (1 << 24) + 1, 1 << 31, u32::MAX]);
+            }
+        }
         _ => {}
     }
     step
@@ -574,7 +596,7 @@ fn any_step(chance: &mut Chance, memory: &[u32]) -> [u32; STEP] {
 fn lent_length(chance: &mut Chance, step: &[u32; STEP]) -> usize {
     let limit = match step[0] {
         7 => step[5],
-        8 | 9 => step[4],
+        8 | 9 | 11 => step[4],
         _ => chance.from(0, 600),
     };
     let limit = limit.min(599) as usize;
@@ -596,7 +618,8 @@ fn run_text(step: &[u32; STEP]) -> String {
         7 => format!("op=scan n={a} a={b} f={c} to={d} limit={e}"),
         8 => format!("op=repeat n={a} a={b} f={c} limit={d} tries={e}"),
         9 => format!("op=stop n={a} a={b} f={c} limit={d}"),
-        10 => "op=put n=1 a=0 to=2 limit=1 w=0".to_string(),
+        10 => format!("op=put n={a} a={b} to={c} limit={d} w={e}"),
+        11 => format!("op=put n={a} a={b} to={c} limit={d}"), // garbled: w is missing
         _ => format!("op={kind}"),
     }
 }
@@ -636,13 +659,14 @@ fn garble(chance: &mut Chance, line: &[u8]) -> Vec<u8> {
         }
         8 => out.retain(|byte| *byte != b' '),
         9 | 10 => {
-            // another order of the fields, one dropped or one twice
+            // another order of the fields, one dropped, one twice or an F too many
             let mut parts: Vec<&[u8]> = line.split(|byte| *byte == b' ').collect();
             let (one, two) = (chance.below(parts.len()), chance.below(parts.len()));
-            match chance.below(3) {
+            match chance.below(4) {
                 0 => parts.swap(one, two),
                 1 => drop(parts.remove(one)),
-                _ => parts.insert(two, parts[one]),
+                2 => parts.insert(two, parts[one]),
+                _ => parts.insert(two, b"f=16"),
             }
             out = parts.join(&b' ');
         }
@@ -704,6 +728,20 @@ fn length_about(chance: &mut Chance, need: usize, more: usize) -> usize {
     }
 }
 
+// The words of a buffer: any; or of 24 bits, as a put wants them, at times but for one.
+fn any_buffer(chance: &mut Chance, length: usize) -> Lent<u32> {
+    if length == 0 || chance.percent(20) {
+        return any_words(chance, length);
+    }
+    let mut contents: Vec<u32> = (0..length).map(|_| word24(chance)).collect();
+    if chance.percent(30) {
+        let any = chance.below(length);
+        let place = chance.pick(&[0, any, any, length - 1]);
+        contents[place] = chance.pick(&[1 << 24, (1 << 24) + 1, 1 << 31, u32::MAX]);
+    }
+    lent_words(chance, &contents)
+}
+
 fn any_call(chance: &mut Chance, memory: &Lent<u32>) -> (Call, Arrays) {
     let mut answer_len = match chance.below(20) {
         0 => chance.below(ANSWER),
@@ -753,8 +791,64 @@ fn any_call(chance: &mut Chance, memory: &Lent<u32>) -> (Call, Arrays) {
             Call::List(count, lent_words(chance, &words))
         }
     };
-    let arrays = Arrays { memory: memory.clone(), answer: any_words(chance, answer_len), buffer: any_words(chance, buffer_len) };
+    let arrays = Arrays { memory: memory.clone(), answer: any_words(chance, answer_len), buffer: any_buffer(chance, buffer_len) };
     (call, arrays)
+}
+
+// ---- puts worked out by hand ----
+
+// The words lent, the limit, the answer, and the registers after the put.
+type HandPut = (Vec<u32>, u32, [u32; ANSWER], [u32; 4]);
+
+// Puts of lent words into an output register in station 2 whose four registers hold 9.
+fn puts_by_hand() -> [HandPut; 11] {
+    const WIDE: u32 = u32::MAX;
+    const AS_BEFORE: [u32; 4] = [9; 4];
+    let refused = |number| [0, number, 0, 0];
+    // 600 words, these first
+    let long = |words: &[u32]| [words, &vec![WIDE; 600 - words.len()]].concat();
+    [
+        (vec![1, 2, 3, WIDE], 3, [6, 1, 3, 3], [1, 2, 3, 9]),
+        (vec![1, 2, 3, WIDE], 4, refused(5), AS_BEFORE),
+        (vec![WIDE, WIDE], 3, refused(8), AS_BEFORE),
+        (vec![], 0, refused(7), AS_BEFORE),
+        (long(&[1, 2, 3]), 3, [6, 1, 3, 3], [1, 2, 3, 9]),
+        (long(&[1, 2, 3]), 4, refused(5), AS_BEFORE),
+        (long(&[]), 3, refused(5), AS_BEFORE),
+        (long(&[]), 0, refused(7), AS_BEFORE),
+        (long(&[]), 513, refused(7), AS_BEFORE),
+        (long(&[7; 511]), 512, refused(5), AS_BEFORE),
+        // four words are taken, and the fifth cycle, at A4, has Q = 0
+        (long(&[7; 512]), 512, [6, 2, 4, 5], [7; 4]),
+    ]
+}
+
+// Asserts that library and reference both do these puts as the hand has them, and leave all else as it was.
+fn try_puts_by_hand() {
+    let lent = |words: &[u32]| Lent::new(words, || 0);
+    for (words, limit, answer, registers) in puts_by_hand() {
+        let mut memory = vec![0; MEMORY];
+        let block = 2 * BLOCK;
+        memory[block..block + 2].copy_from_slice(&[2, 4]);
+        memory[block + 16..block + 20].fill(9);
+        let mut call = Call::Step(lent(&[11, 2, 0, 2, limit, u32::MAX]));
+        let call_before = call.clone();
+        let mut reference = Arrays { memory: lent(&memory), answer: lent(&[0; ANSWER]), buffer: lent(&words) };
+        let mut library = reference.clone();
+        memory[block + 16..block + 20].copy_from_slice(&registers);
+        let number = if answer[0] == 0 { answer[1] } else { 0 };
+        let shown = format!("a put of {} words, limit {limit}", words.len());
+
+        assert_eq!(call_reference(&call, &mut reference), number, "reference, returned, {shown}");
+        assert_eq!(call_library(&mut call, &mut library), number, "library, returned, {shown}");
+        assert!(call == call_before, "library, step, {shown}");
+        for (name, after) in [("reference", reference), ("library", library)] {
+            assert!(after.answer == lent(&answer), "{name}, answer {:?}, {shown}", after.answer.words());
+            assert!(after.memory == lent(&memory), "{name}, memory, {shown}");
+            assert!(after.buffer == lent(&words), "{name}, buffer, {shown}");
+        }
+    }
+    println!("{} puts worked out by hand, 0 differ", puts_by_hand().len());
 }
 
 // ---- what is printed of a difference ----
@@ -810,6 +904,7 @@ fn main() {
             std::process::exit(2);
         }
     };
+    try_puts_by_hand();
     let mut chance = Chance(seed);
     let mut memory = lent_words(&mut chance, &[]);
     let mut left = 0; // calls until a new memory is made

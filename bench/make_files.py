@@ -41,43 +41,54 @@ def subaddress(rng, r, function=None):
     return rng.randint(0, 15)
 
 
+def put(rng, modules, limit):
+    """A put, most often from a station that takes F16."""
+    takes = [each for each in modules if each[1] in (2, 5)]
+    n, _, r = station(rng, takes if rng.random() < 0.7 else modules)
+    a = subaddress(rng, r) if rng.random() < 0.5 else 0
+    return "op=put n=%d a=%d to=%d limit=%d w=%d" % (n, a, rng.choice([n, rng.randint(n, 23)]), limit, word(rng))
+
+
 def step(rng, modules, longest):
     """A run line in form; a transfer asks for at most `longest` words or cycles."""
     n, _, r = station(rng, modules)
     pick = rng.random()
-    if pick < 0.45:
+    if pick < 0.44:
         f = rng.choice(FUNCTIONS) if rng.random() < 0.9 else rng.randint(0, 31)
         return "op=naf n=%d a=%d f=%d w=%d" % (n, subaddress(rng, r, f), f, word(rng))
-    if pick < 0.75:
+    if pick < 0.73:
         return "op=front n=%d a=%d v=%d" % (n, subaddress(rng, r), word(rng))
-    if pick < 0.76:
+    if pick < 0.74:
         return "op=z"
-    if pick < 0.78:
+    if pick < 0.76:
         return "op=c"
-    if pick < 0.83:
+    if pick < 0.81:
         return "op=i v=%d" % rng.choice([0, 0, 0, 1])
-    if pick < 0.88:
+    if pick < 0.86:
         return "op=lam"
     f = rng.choice([0, 2, 2, 3])
     a = subaddress(rng, r) if rng.random() < 0.5 else 0
     limit = rng.choice([1, 2, 3, 16, 17, rng.randint(1, longest)])
-    if pick < 0.93:
+    if pick < 0.91:
         return "op=scan n=%d a=%d f=%d to=%d limit=%d" % (n, a, f, rng.randint(n, 23), limit)
-    if pick < 0.97:
+    if pick < 0.95:
+        return put(rng, modules, limit)
+    if pick < 0.98:
         return "op=repeat n=%d a=%d f=%d limit=%d tries=%d" % (n, a, f, limit, rng.choice([1, 2, 3, 16, rng.randint(1, longest)]))
     return "op=stop n=%d a=%d f=%d limit=%d" % (n, a, f, limit)
 
 
 EDGES = [0, 1, 2, 3, 4, 8, 15, 16, 17, 22, 23, 24, 25, 31, 32, 512, 513, 4096, 4097, 16777215, 16777216, 99999999]
+WORD_EDGES = EDGES[-3:]
 
 
 def edge_fields(rng, line):
-    """The line with some fields at or past their bounds; in form, often refused."""
+    """The line with some fields, of all or of the last ones, at or past their bounds; in form, often refused."""
     parts = line.split(" ")
-    for place in range(len(parts)):
+    for place in range(rng.choice([0, rng.randrange(len(parts))]), len(parts)):
         name, number = parts[place].split("=")
         if number.isdigit() and rng.random() < 0.4:
-            parts[place] = "%s=%d" % (name, rng.choice(EDGES))
+            parts[place] = "%s=%d" % (name, rng.choice(WORD_EDGES if name == "w" and rng.random() < 0.5 else EDGES))
     return " ".join(parts)
 
 
@@ -122,7 +133,7 @@ def spoiled(rng, line):
         return b"x" * rng.choice([79, 80, 81, 82, 83, 160, 162, 255, 256, 1000, 4096, 8192, 70000]) + line
     if shape == 16:
         return bytes(rng.choice([b for b in range(256) if b != 10]) for _ in range(rng.randint(1, 90)))
-    return b"op=" + rng.choice([b"put n=1 a=0 to=2 limit=1 w=0", b"within n=1 to=2 lo=0 hi=1", b"nop", b"", b"na", b"nafn=1", b"Z", b"lam "])
+    return b"op=" + rng.choice([b"put n=1 a=0 f=16 to=2 limit=1 w=0", b"put n=1 a=0 to=2 w=0 limit=1", b"put n=1 a=0 limit=1 to=2 w=0", b"put n=1 a=0 to=2 limit=1", b"within n=1 to=2 lo=0 hi=1", b"nop", b"", b"na", b"nafn=1", b"Z", b"lam "])
 
 
 def write_folder(path, crate, run):
@@ -137,7 +148,7 @@ def write_folder(path, crate, run):
 
 
 def mixed(path):
-    """99,999 lines of all nine kinds, one in twenty with a field past its bound, one in fifty garbled."""
+    """99,999 lines of all ten forms, one in twenty with a field past its bound, one in fifty garbled."""
     rng = random.Random("mixed")
     modules = [module(rng, n) for n in range(1, 24) if n not in (6, 13)]
     lines = []

@@ -1,4 +1,4 @@
-// The CAMAC rehearsal in plain C, written from document 01 read as docs/RULES.md has it.
+// The CAMAC rehearsal in plain C, written from document 01 and request L1 of document 02, read as docs/RULES.md has them.
 // It shares no code with the proved program, so that the two can be compared, in what they print and in how fast they are.
 // Build: gcc -O3 -DSTDIO plain.c has the C library read lines and print numbers, as a C program mostly does; gcc -O3 plain.c does both by hand, to be quick.
 // It reads crate.txt and run.txt in the current folder, or the two files named, and prints the sheet.
@@ -112,6 +112,15 @@ static inline bool read_word(struct station *m, uint32_t a, uint32_t f, uint32_t
     return true;
 }
 
+// F16: whether the module takes it, which is X and Q.
+static inline bool write_word(struct station *m, uint32_t a, uint32_t w)
+{
+    if (a >= m->r || (m->kind != OUTPUT && m->kind != COUNTER))
+        return false;
+    m->word[a] = w;
+    return true;
+}
+
 // F9 at A below r.
 static void clear(struct station *m, uint32_t a)
 {
@@ -151,10 +160,7 @@ static struct reply command(struct station *m, uint32_t a, uint32_t f, uint32_t 
         clear(m, a);
         return reply;
     case 16:
-        if (!below_r || (m->kind != OUTPUT && m->kind != COUNTER))
-            return none;
-        m->word[a] = w;
-        return reply;
+        return write_word(m, a, w) ? reply : none;
     case 18:
     case 21:
         if (!below_r || m->kind != OUTPUT)
@@ -337,11 +343,16 @@ static uint32_t do_lam(void)
     return 0;
 }
 
-static void put_transfer(uint32_t end, const uint32_t *words, uint32_t stored, uint32_t cycles)
+static void put_end(uint32_t end, uint32_t words, uint32_t cycles)
 {
     PUT_FIELD(" end=", end);
-    PUT_FIELD(" words=", stored);
+    PUT_FIELD(" words=", words);
     PUT_FIELD(" cycles=", cycles);
+}
+
+static void put_transfer(uint32_t end, const uint32_t *words, uint32_t stored, uint32_t cycles)
+{
+    put_end(end, stored, cycles);
     for (uint32_t i = 0; i < stored; i++) {
         PUT_FIELD("\nword=", words[i]);
         make_room();
@@ -395,6 +406,32 @@ static uint32_t do_stop(uint32_t n, uint32_t a, uint32_t f, uint32_t limit)
     for (bool q = true; q && stored < limit; cycles++)
         stored += q = read_word(&crate[n], a, f, &words[stored]);
     put_transfer(stored == limit ? 1 : 2, words, stored, cycles);
+    return 0;
+}
+
+static uint32_t do_put(uint32_t n, uint32_t a, uint32_t to, uint32_t limit, uint32_t w)
+{
+    uint32_t bad = bad_address(n, a), used = 0, cycles = 0;
+    if (bad)
+        return bad;
+    if (to < n || to > STATIONS)
+        return CROSSED_RANGE;
+    if (bad_length(limit, MOST_WORDS))
+        return BAD_LENGTH;
+    if (w > WORD_MAX)
+        return OVERWIDE_WORD;
+    while (used < limit && n <= to) {
+        bool q = write_word(&crate[n], a, w);
+        cycles++;
+        used += q;
+        if (q && a < 15)
+            a++;
+        else {
+            n++;
+            a = 0;
+        }
+    }
+    put_end(used == limit ? 1 : 2, used, cycles);
     return 0;
 }
 
@@ -454,6 +491,10 @@ static uint32_t run_line(const char *p)
     case 'r':
         if (FIELD("repeat n=", n) && FIELD(" a=", a) && FIELD(" f=", f) && FIELD(" limit=", limit) && FIELD(" tries=", tries) && END())
             return do_repeat(n, a, f, limit, tries);
+        return GARBLED;
+    case 'p':
+        if (FIELD("put n=", n) && FIELD(" a=", a) && FIELD(" to=", to) && FIELD(" limit=", limit) && FIELD(" w=", w) && END())
+            return do_put(n, a, to, limit, w);
         return GARBLED;
     default:
         return GARBLED;

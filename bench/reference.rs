@@ -1,4 +1,4 @@
-// The crate, its steps and its lines in plain Rust, written from document 01 read as docs/RULES.md has it.
+// The crate, its steps and its lines in plain Rust, written from document 01 and request L1 of document 02, read as docs/RULES.md has them.
 // It shares no code with the proved library, so that library.rs can compare the two call by call.
 
 use std::collections::VecDeque;
@@ -353,6 +353,28 @@ impl Crate {
         }
     }
 
+    // A put: the scan's path, each cycle F16 with the first word not used up; Q = 1 uses it up. Answers also how many words were used up.
+    fn put(&mut self, n: u32, a: u32, to: u32, offered: &[u32]) -> (Transfer, u32) {
+        let (mut n, mut a, mut cycles, mut used) = (n, a, 0, 0);
+        loop {
+            if used == offered.len() {
+                return (Transfer { end: 1, cycles }, used as u32);
+            }
+            if n > to {
+                return (Transfer { end: 2, cycles }, used as u32);
+            }
+            cycles += 1;
+            let q = self.command(n, a, 16, offered[used]).q;
+            used += q as usize;
+            if q == 1 && a < 15 {
+                a += 1;
+            } else {
+                n += 1;
+                a = 0;
+            }
+        }
+    }
+
     fn repeat(&mut self, n: u32, a: u32, f: u32, limit: u32, tries: u32, words: &mut Vec<u32>) -> Transfer {
         let mut cycles = 0;
         loop {
@@ -403,6 +425,10 @@ fn judge_word(w: u32) -> Result<(), u32> {
     judge(w > WORD_MAX, OVERWIDE_WORD)
 }
 
+fn judge_range(n: u32, to: u32) -> Result<(), u32> {
+    judge(to < n || to > STATIONS, CROSSED_RANGE)
+}
+
 fn judge_limit(limit: u32) -> Result<(), u32> {
     judge(limit < 1 || limit > 512, BAD_LENGTH)
 }
@@ -416,6 +442,14 @@ fn judge_transfer(n: u32, a: u32, f: u32) -> Result<(), u32> {
     judge_station(n)?;
     judge_subaddress(a)?;
     judge(f != 0 && f != 2 && f != 3, NO_SUCH_FUNCTION)
+}
+
+// The fields that both puts have.
+fn judge_put(n: u32, a: u32, to: u32, limit: u32) -> Result<(), u32> {
+    judge_station(n)?;
+    judge_subaddress(a)?;
+    judge_range(n, to)?;
+    judge_limit(limit)
 }
 
 // ---- steps ----
@@ -432,6 +466,8 @@ pub enum Step {
     Scan([u32; 5]),
     Repeat([u32; 5]),
     Stop([u32; 4]),
+    Put([u32; 5]),
+    PutLent([u32; 4]), // of the buffer's words; it has no line
 }
 
 pub enum Answer {
@@ -440,10 +476,12 @@ pub enum Answer {
     Done,
     Looked(u32, u32, u32),
     Transferred(Transfer),
+    Wrote(Transfer, u32), // a put, and how many words were used up
 }
 
-// One step on a fit crate, with `lent` words of buffer; `words` is empty before it. A refused one changes nothing.
-pub fn run_step(memory: &mut Crate, step: Step, lent: usize, words: &mut Vec<u32>) -> Result<Answer, u32> {
+// One step on a fit crate, lent the words of `buffer`. `words` is empty before it and takes those that a transfer stores. A refused step changes nothing.
+pub fn run_step(memory: &mut Crate, step: Step, buffer: &[u32], words: &mut Vec<u32>) -> Result<Answer, u32> {
+    let lent = buffer.len();
     match step {
         Step::Naf([n, a, f, w]) => {
             judge_station(n)?;
@@ -477,7 +515,7 @@ pub fn run_step(memory: &mut Crate, step: Step, lent: usize, words: &mut Vec<u32
         }
         Step::Scan([n, a, f, to, limit]) => {
             judge_transfer(n, a, f)?;
-            judge(to < n || to > STATIONS, CROSSED_RANGE)?;
+            judge_range(n, to)?;
             judge_limit(limit)?;
             judge_lent(lent, limit)?;
             Ok(Answer::Transferred(memory.scan(n, a, f, to, limit, words)))
@@ -494,6 +532,22 @@ pub fn run_step(memory: &mut Crate, step: Step, lent: usize, words: &mut Vec<u32
             judge_limit(limit)?;
             judge_lent(lent, limit)?;
             Ok(Answer::Transferred(memory.stop(n, a, f, limit, words)))
+        }
+        Step::Put([n, a, to, limit, w]) => {
+            judge_put(n, a, to, limit)?;
+            judge_word(w)?;
+            let (transfer, used) = memory.put(n, a, to, &vec![w; limit as usize]);
+            Ok(Answer::Wrote(transfer, used))
+        }
+        Step::PutLent([n, a, to, limit]) => {
+            judge_put(n, a, to, limit)?;
+            judge_lent(lent, limit)?;
+            let offered = &buffer[..limit as usize];
+            for w in offered {
+                judge_word(*w)?;
+            }
+            let (transfer, used) = memory.put(n, a, to, offered);
+            Ok(Answer::Wrote(transfer, used))
         }
     }
 }
@@ -570,6 +624,9 @@ pub fn run_line(line: &[u8]) -> Option<Step> {
     }
     if let Some(fields) = fields(line, "op=stop", [" n=", " a=", " f=", " limit="]) {
         return Some(Step::Stop(fields));
+    }
+    if let Some(fields) = fields(line, "op=put", [" n=", " a=", " to=", " limit=", " w="]) {
+        return Some(Step::Put(fields));
     }
     None
 }

@@ -7,7 +7,7 @@ COUNT    random pairs (2000)
 SEED     of the first of them (1)
 Ends with 0 when every output is the same, 1 when one differs, 2 when it cannot start.
 
-Written from document 01 alone. A line of a file is a step. The verdict comes from trying the rearrangements one by one; the lines before it from
+Written from document 01 and request L1 of document 02 alone. A line of a file is a step. The verdict comes from trying the rearrangements one by one; the lines before it from
 the steps that touch each station, in order, and from how often each refusal number comes. Neighbouring stations that part alike are one line.
 What is said on standard error is compared too.
 """
@@ -34,6 +34,7 @@ FORMS = {
     "scan": ["n", "a", "f", "to", "limit"],
     "repeat": ["n", "a", "f", "limit", "tries"],
     "stop": ["n", "a", "f", "limit"],
+    "put": ["n", "a", "to", "limit", "w"],
 }
 NUMBER = "(0|[1-9][0-9]{0,7})"
 PATTERNS = {
@@ -86,7 +87,7 @@ def step_of(line):
             number = field_refusal(op, values, name)
             if number:
                 return refused_with(number)
-        if op == "scan":
+        if op in ("scan", "put"):
             touches = frozenset(range(values["n"], values["to"] + 1))
         elif "n" in values:
             touches = frozenset([values["n"]])
@@ -205,14 +206,18 @@ def outcome(pair):
 # ---- random pairs
 
 
+WORDS = [0, 1, 16777215]
+WIDE_WORDS = [16777216, 99999999]
+
+
 def good_line(rng, stations):
-    op = rng.choice(["naf"] * 5 + ["front"] * 5 + ["scan"] * 4 + ["repeat", "stop"] * 2 + ["z", "c", "i", "lam"])
+    op = rng.choice(["naf"] * 5 + ["front"] * 5 + ["scan"] * 4 + ["put"] * 3 + ["repeat", "stop"] * 2 + ["z", "c", "i", "lam"])
     n = rng.choice(stations)
     values = {
         "n": n,
         "a": rng.choice([0, 0, 1, 15]),
         "f": rng.choice([0, 2, 3]) if op != "naf" else rng.choice([0, 2, 31]),
-        "w": rng.choice([0, 1, 16777215]),
+        "w": rng.choice(WORDS),
         "v": rng.choice([0, 1]) if op == "i" else rng.choice([0, 1, 16777215]),
         "to": rng.choice([n, min(n + 1, LAST_STATION), rng.randint(n, LAST_STATION)]),
         "limit": rng.choice([1, 2, 512]),
@@ -234,6 +239,11 @@ def edged(rng, line):
     return " ".join(parts)
 
 
+def rewritten(rng, line):
+    """The line with another write word, at times overwide, where it ends in one."""
+    return re.sub(" w=[0-9]+$", lambda _: " w=%d" % rng.choice(WORDS + WIDE_WORDS), line)
+
+
 def garbled(rng, line):
     return rng.choice(
         [
@@ -250,6 +260,9 @@ def garbled(rng, line):
             line + " w=0",
             line + " " * 90,
             "\xff" + line,
+            "op=put n=1 a=0 f=16 to=1 limit=1 w=1",
+            "op=put n=1 a=0 to=1 w=1 limit=1",
+            "op=put n=1 a=0 to=1 limit=1",
         ]
     )
 
@@ -281,7 +294,7 @@ def changed(rng, lines, stations):
         return [any_line(rng, stations)]
     place = rng.randrange(len(lines))
     other = rng.randrange(len(lines))
-    pick = rng.randrange(10)
+    pick = rng.randrange(11)
     if pick == 0:
         lines[place], lines[other] = lines[other], lines[place]
     elif pick == 1:
@@ -300,6 +313,8 @@ def changed(rng, lines, stations):
         lines.append(any_line(rng, stations))
     elif pick == 8:
         lines.pop()
+    elif pick == 9:
+        lines[place] = rewritten(rng, lines[place])
     else:
         rng.shuffle(lines)
     return lines
@@ -318,6 +333,7 @@ def random_pair(rng):
     """The bytes of the two files, None where a file is missing."""
     stations = rng.choices([1, 2, 3, 4, 5, 22, 23], k=rng.randint(1, 4))
     pool = [any_line(rng, stations) for _ in range(rng.randint(1, 8))]
+    pool += [rewritten(rng, line) for line in pool if rng.random() < 0.3]
     first = [rng.choice(pool) for _ in range(rng.randint(0, 7))]
     pick = rng.random()
     if pick < 0.03:

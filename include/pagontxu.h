@@ -1,7 +1,7 @@
 /* pagontxu.h: a rehearsal of a CAMAC crate, for programs in C, Fortran or Python.
  *
- * The rules are those of document 01, "The CAMAC rehearsal crate"; docs/RULES.md has them, numbered. Each function is proved to return and to leave what its definition in
- * crates/capi/specs/Calls.antt says, for any contents and any lengths of the arrays that it is lent.
+ * The rules are those of document 01, "The CAMAC rehearsal crate", and of document 02, request L1, the put; docs/RULES.md has them, numbered. Each function is
+ * proved to return and to leave what its definition in crates/capi/specs/Calls.antt says, for any contents and any lengths of the arrays that it is lent.
  *
  * Build the archive with `rt staticlib capi` and link target/staticlib/libcapi.a (x86-64 Linux). The library keeps no state, allocates nothing
  * and asks of the C library no more than memset: two threads may call it at once on different arrays.
@@ -36,7 +36,12 @@
  *   7 scan    n a f to limit      Address Scan
  *   8 repeat  n a f limit tries   Repeat
  *   9 stop    n a f limit         Stop
+ *  10 put     n a to limit w      a put of one word: w, `limit` times; it needs no buffer
+ *  11         n a to limit        a put of lent words: the first `limit` words of the buffer; a run file has no line for it
  *   any other word 0 is garbled: refusal 1.
+ *
+ * A PUT is a write scan: the path of a scan, with F16. Each cycle offers the first word not used up, and Q = 1 uses it up. End 1: all `limit` words are
+ * used up. End 2: past `to`. A put of lent words reads the buffer; both puts leave it as it is.
  *
  * AN ANSWER: four words.
  *   0 refused               the refusal number, 0, 0
@@ -44,7 +49,8 @@
  *   2 a front event         taken (1 or 0), 0, 0
  *   3 Z, C or I             1, 0, 0
  *   4 Look-at-Me reading    L, count, first
- *   5 a transfer            end, words, cycles; the words are in the buffer, which keeps what it held past them
+ *   5 scan, Repeat or Stop  end, words, cycles; the words are in the buffer, which keeps what it held past them
+ *   6 a put                 end, words used up, cycles
  *
  * A REFUSAL changes nothing in the memory or the buffers. Each function returns 0, or the number of its refusal:
  */
@@ -60,14 +66,14 @@ extern "C" {
 
 enum pagontxu_refusal {
     PAGONTXU_FINE = 0,
-    PAGONTXU_GARBLED = 1,             /* a line, or a step's word 0, in no form of 01 */
+    PAGONTXU_GARBLED = 1,             /* a line, or a step's word 0, in no form of 01 or L1 */
     PAGONTXU_NO_SUCH_STATION = 2,     /* N outside 1 to 23 */
     PAGONTXU_NO_SUCH_SUBADDRESS = 3,  /* A above 15 */
     PAGONTXU_NO_SUCH_FUNCTION = 4,    /* F above 31; in a transfer, not 0, 2, 3 */
-    PAGONTXU_OVERWIDE_WORD = 5,       /* w or v above 16777215; for I, v above 1 */
+    PAGONTXU_OVERWIDE_WORD = 5,       /* w or v above 16777215; for I, v above 1; in a put of lent words, after 8, one of these above 16777215 */
     PAGONTXU_CROSSED_RANGE = 6,       /* `to` below N or above 23 */
     PAGONTXU_BAD_LENGTH = 7,          /* limit outside 1 to 512, tries outside 1 to 4096 */
-    PAGONTXU_SHORT_BUFFER = 8,        /* fewer than limit words of buffer; or a step, answer, or list array with too few words */
+    PAGONTXU_SHORT_BUFFER = 8,        /* fewer than limit words of buffer (a put of one word needs none); or a step, answer, or list array with too few words */
     PAGONTXU_UNFIT_CRATE = 9,         /* the memory is not fit; comes before all else */
     PAGONTXU_BAD_MODULE = 10,         /* a crate line's kind outside 1 to 5, or r not of its kind */
     PAGONTXU_OUT_OF_ORDER = 11        /* a crate line's station not above that of the line before */
@@ -79,7 +85,8 @@ enum pagontxu_answer {
     PAGONTXU_TAKEN = 2,
     PAGONTXU_DONE = 3,
     PAGONTXU_LOOKED = 4,
-    PAGONTXU_TRANSFERRED = 5
+    PAGONTXU_TRANSFERRED = 5,
+    PAGONTXU_WROTE = 6
 };
 
 enum {
@@ -95,18 +102,19 @@ enum {
 uint32_t pagontxu_crate_line(uint32_t *memory, size_t memory_len, uint32_t previous, const uint8_t *line, size_t line_len);
 
 /* One line of a run file, as `op=naf n=3 a=0 f=2 w=0`, without its LF. The answer goes into the first four words of `answer`, a refusal too; words past
- * them keep their contents. A transfer stores its words in `buffer`; other steps leave it as it is, and its length may be 0.
+ * them keep their contents. A scan, Repeat or Stop stores its words in `buffer`; other steps leave it as it is, and its length may be 0.
  * Refusals in this order: 9; 8 where `answer` has fewer than four words, which then keep their contents; then the line's own, 8 for a short buffer last. */
 uint32_t pagontxu_run_line(uint32_t *memory, size_t memory_len, const uint8_t *line, size_t line_len, uint32_t *answer, size_t answer_len,
                            uint32_t *buffer, size_t buffer_len);
 
-/* One step of six words; words of `step` past them are not looked at. As pagontxu_run_line; 8, after 9, also where `step` has fewer than six words. */
+/* One step of six words; words of `step` past them are not looked at. As pagontxu_run_line; 8, after 9, also where `step` has fewer than six words.
+ * A put of lent words finds them in `buffer`, and is refused last of all with 8, then 5; words of `buffer` past the first `limit` are not looked at. */
 uint32_t pagontxu_step(uint32_t *memory, size_t memory_len, const uint32_t *step, size_t step_len, uint32_t *answer, size_t answer_len,
                        uint32_t *buffer, size_t buffer_len);
 
 /* A list of `count` steps, done in turn. Step k, from 0, has words 6 k to 6 k + 5 of `steps`, 4 k to 4 k + 3 of `answers` and 512 k to 512 k + 511 of
- * `buffers`; words past those of the last step keep their contents. Returns 9 or 8 where the memory is not fit or too few words are lent: then nothing
- * changes, the answers included. Else it returns 0; a step that is refused says so in its answer, and the run goes on. */
+ * `buffers`, in which a put of lent words finds its own; words past those of the last step keep their contents. Returns 9 or 8 where the memory is not fit
+ * or too few words are lent: then nothing changes, the answers included. Else it returns 0; a step that is refused says so in its answer, and the run goes on. */
 uint32_t pagontxu_list(uint32_t *memory, size_t memory_len, size_t count, const uint32_t *steps, size_t steps_len, uint32_t *answers,
                        size_t answers_len, uint32_t *buffers, size_t buffers_len);
 

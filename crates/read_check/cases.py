@@ -39,6 +39,7 @@ step("op=c", "C")
 step("op=i v=1", "Inhibit v=1")
 step("op=repeat n=7 a=1 f=2 limit=3 tries=4", "Repeat n=7 a=1 f=2 limit=3 tries=4")
 step("op=stop n=8 a=9 f=3 limit=10", "Stop n=8 a=9 f=3 limit=10")
+step("op=put n=2 a=0 to=5 limit=10 w=7", "Put n=2 a=0 to=5 limit=10 w=7")
 
 # ---- 2. fields that differ, so that each must come to its own place; numbers of one to eight digits; values that are judged elsewhere
 step("op=naf n=1 a=23 f=456 w=7890", "Command n=1 a=23 f=456 w=7890")
@@ -49,6 +50,8 @@ step("op=scan n=50 a=40 f=30 to=20 limit=10", "Scan n=50 a=40 f=30 to=20 limit=1
 step("op=repeat n=1 a=2 f=3 limit=4 tries=5", "Repeat n=1 a=2 f=3 limit=4 tries=5")
 step("op=repeat n=0 a=16 f=32 limit=513 tries=4097", "Repeat n=0 a=16 f=32 limit=513 tries=4097")
 step("op=stop n=1 a=2 f=3 limit=4", "Stop n=1 a=2 f=3 limit=4")
+step("op=put n=1 a=2 to=3 limit=4 w=5", "Put n=1 a=2 to=3 limit=4 w=5")
+step("op=put n=12345678 a=1234567 to=123456 limit=12345 w=1234", "Put n=12345678 a=1234567 to=123456 limit=12345 w=1234")
 step("op=i v=2", "Inhibit v=2")
 step("op=i v=9", "Inhibit v=9")
 step("op=i v=10", "Inhibit v=10")
@@ -73,6 +76,7 @@ forms = [
     ("op=scan n={} a={} f={} to={} limit={}", "Scan n={} a={} f={} to={} limit={}", 5),
     ("op=repeat n={} a={} f={} limit={} tries={}", "Repeat n={} a={} f={} limit={} tries={}", 5),
     ("op=stop n={} a={} f={} limit={}", "Stop n={} a={} f={} limit={}", 4),
+    ("op=put n={} a={} to={} limit={} w={}", "Put n={} a={} to={} limit={} w={}", 5),
 ]
 module_form = ("n={} kind={} r={}", "Module n={} kind={} r={}", 3)
 
@@ -123,13 +127,17 @@ garbled(
     "op=repeat n=7 a=1 f=2 to=5 limit=8", "op=repeat n=7 a=1 f=2 limit=3 tries=4 to=5", "op=repeat n=7 a=1 f=2 limit=3 tries=4 tries=4",
     "op=stop n=8 a=9 f=3", "op=stop n=8 a=9 limit=10", "op=stop n=8 a=9 f=3 tries=10", "op=stop n=8 a=9 f=3 to=9 limit=10",
     "op=stop n=8 a=9 f=3 limit=10 tries=1", "op=stop n=8 f=3 a=9 limit=10", "op=stop limit=10 n=8 a=9 f=3",
+    "op=put", "op=put n=2 a=0 to=5 limit=10", "op=put n=2 a=0 to=5 limit=10 w=", "op=put n=2 a=0 to=5 w=7", "op=put n=2 a=0 limit=10 w=7",
+    "op=put n=2 to=5 limit=10 w=7", "op=put a=0 to=5 limit=10 w=7", "op=put n=2 a=0 f=16 to=5 limit=10 w=7", "op=put n=2 a=0 to=5 limit=10 f=16 w=7",
+    "op=put n=2 a=0 to=5 w=7 limit=10", "op=put n=2 a=0 limit=10 to=5 w=7", "op=put n=2 to=5 a=0 limit=10 w=7", "op=put n=2 a=0 to=5 limit=10 v=7",
+    "op=put n=2 a=0 to=5 limit=10 w=7 w=7", "op=put n=2 a=0 to=5 limit=10 w=7 tries=1", "op=put n=2 a=0 f=16 w=7", "op=scan n=2 a=0 to=5 limit=10 w=7",
     "n=3", "n=3 kind=1", "n=3 r=2", "kind=1 r=2", "n= kind= r=", "n kind r", "3 1 2", "n=3 r=2 kind=1", "kind=1 n=3 r=2", "n=3 kind=1 r=2 r=2",
     "n=3 n=3 kind=1 r=2", "n=3 kind=1 r=2 s=2", "n=3 kind=1 r=2 t=1", "n=3 kind=scaler r=2", "op=n n=3 kind=1 r=2", "n=3 kind=1 r",
 )
 
 # ---- 6. spaces: before, after, doubled, missing, beside the sign of equality; a tab for a space
 for line in ["op=naf n=3 a=0 f=2 w=0", "op=front n=3 a=0 v=5", "op=z", "op=c", "op=i v=0", "op=lam", "op=scan n=3 a=0 f=0 to=5 limit=8",
-             "op=repeat n=7 a=1 f=2 limit=3 tries=4", "op=stop n=8 a=9 f=3 limit=10", "n=3 kind=1 r=2"]:
+             "op=repeat n=7 a=1 f=2 limit=3 tries=4", "op=stop n=8 a=9 f=3 limit=10", "op=put n=2 a=0 to=5 limit=10 w=7", "n=3 kind=1 r=2"]:
     garbled(" " + line, line + " ", "  " + line, line + "  ", "\t" + line, line + "\t")
     garbled(line.replace("=", " =", 1), line.replace("=", "= ", 1))
     if " " in line:
@@ -139,7 +147,7 @@ garbled(" ", "  ", "\t", "=", "n", "o", "op")
 
 # ---- 7. capitals
 for line in ["op=naf n=3 a=0 f=2 w=0", "op=front n=3 a=0 v=5", "op=z", "op=c", "op=i v=0", "op=lam", "op=scan n=3 a=0 f=0 to=5 limit=8",
-             "op=repeat n=7 a=1 f=2 limit=3 tries=4", "op=stop n=8 a=9 f=3 limit=10", "n=3 kind=1 r=2"]:
+             "op=repeat n=7 a=1 f=2 limit=3 tries=4", "op=stop n=8 a=9 f=3 limit=10", "op=put n=2 a=0 to=5 limit=10 w=7", "n=3 kind=1 r=2"]:
     garbled(line.upper(), line[0].upper() + line[1:])
 garbled("op=Z", "op=C", "op=I v=0", "op=i V=0", "op=Lam", "op=LAM", "op=naf N=3 a=0 f=2 w=0", "op=naf n=3 a=0 f=2 W=0", "op=NAF n=3 a=0 f=2 w=0",
         "op=scan n=3 a=0 f=0 to=5 Limit=8", "N=3 kind=1 r=2", "n=3 Kind=1 r=2", "n=3 kind=1 R=2")
@@ -147,12 +155,13 @@ garbled("op=Z", "op=C", "op=I v=0", "op=i V=0", "op=Lam", "op=LAM", "op=naf N=3 
 # ---- 8. ops that are none, and words that nearly are
 garbled("op=", "op=x", "op=zz", "op=cc", "op=zc", "op=la", "op=lamp", "op=lamm", "op=lam=", "op=na", "op=nafn=3 a=0 f=2 w=0", "op=nafs n=3 a=0 f=2 w=0",
         "op=fron n=3 a=0 v=5", "op=fronts n=3 a=0 v=5", "op=sca n=3 a=0 f=0 to=5 limit=8", "op=scans n=3 a=0 f=0 to=5 limit=8",
+        "op=pu n=2 a=0 to=5 limit=10 w=7", "op=puts n=2 a=0 to=5 limit=10 w=7", "op=putn=2 a=0 to=5 limit=10 w=7", "op=p", "op=putl n=2 a=0 to=5 limit=10",
         "op=load n=3 a=0 limit=8 w=1", "op=near n=3", "op=read n=3 a=0 f=0 w=0", "op=end", "op=quit", "op==z", "op:z", "op z", "opz", "z", "c", "lam",
         "p=z", "op=z;", "op=z#", "# op=z", "//", "op=zop=c", "op=z op=c", "op=z,op=c", "op=i v=0 op=z", "oop=z", "0p=z", "op=2", "op=0")
 
 # ---- 9. odd bytes: CR before the LF, NUL, bytes above 127
 for line in [b"op=naf n=3 a=0 f=2 w=0", b"op=front n=3 a=0 v=5", b"op=z", b"op=c", b"op=i v=0", b"op=lam", b"op=scan n=3 a=0 f=0 to=5 limit=8",
-             b"op=repeat n=7 a=1 f=2 limit=3 tries=4", b"op=stop n=8 a=9 f=3 limit=10", b"n=3 kind=1 r=2"]:
+             b"op=repeat n=7 a=1 f=2 limit=3 tries=4", b"op=stop n=8 a=9 f=3 limit=10", b"op=put n=2 a=0 to=5 limit=10 w=7", b"n=3 kind=1 r=2"]:
     garbled(line + b"\r", line + b"\0", b"\0" + line, b"\xef\xbb\xbf" + line, line + b"\xff", line.replace(b"=", b"\0=", 1))
 garbled(b"\r", b"\0", b"\0\0\0\0", b"\x7f", b"\x80", b"\xff", b"op=\0", b"op=\xfa", b"op=i v=\0", b"op=i v=0\0000", b"op=i v=\xb0", b"op=i v=\xff",
         b"op=i v=\x30\x00", b"op=i v=\xef\xbc\x91", b"op=i\xa0v=0", b"op=i\xc2\xa0v=0", b"n=\xb3 kind=1 r=2", b"n=3 kind=1 r=\xb2", b"n=3\0kind=1 r=2",
@@ -161,9 +170,11 @@ garbled(b"\r", b"\0", b"\0\0\0\0", b"\x7f", b"\x80", b"\xff", b"op=\0", b"op=\xf
 # ---- 10. lengths: the longest lines in form have 72 and 35 bytes; over 80 bytes is garbled whatever it holds
 step("op=repeat n=99999999 a=99999999 f=99999999 limit=99999999 tries=99999999",
      "Repeat n=99999999 a=99999999 f=99999999 limit=99999999 tries=99999999")
+step("op=put n=99999999 a=99999999 to=99999999 limit=99999999 w=99999999", "Put n=99999999 a=99999999 to=99999999 limit=99999999 w=99999999")
 step("op=scan n=10000000 a=20000000 f=30000000 to=40000000 limit=50000000", "Scan n=10000000 a=20000000 f=30000000 to=40000000 limit=50000000")
 module("n=99999999 kind=99999999 r=99999999", "Module n=99999999 kind=99999999 r=99999999")
 garbled("op=repeat n=99999999 a=99999999 f=99999999 limit=99999999 tries=999999999")
+garbled("op=put n=99999999 a=99999999 to=99999999 limit=99999999 w=999999999")
 garbled("n=99999999 kind=99999999 r=999999999")
 for long in [79, 80, 81, 82, 200]:
     garbled("op=z".ljust(long), "op=i v=0".ljust(long, "0"), "op=i v=".ljust(long, "1"), "op=repeat n=7 a=1 f=2 limit=3 tries=4".ljust(long, "5"),

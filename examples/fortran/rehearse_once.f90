@@ -1,4 +1,4 @@
-! A scaler with two registers in station 3, rehearsed line by line. From the repository's root:
+! A scaler in station 3 and an output register in station 4, rehearsed line by line. From the repository's root:
 !
 !   rt staticlib capi
 !   gfortran -std=f2008 -Wall -J target examples/fortran/rehearse_once.f90 target/staticlib/libcapi.a -o target/rehearse_once_f
@@ -52,9 +52,13 @@ program rehearse_once
   use pagontxu
   implicit none
 
-  integer(c_int32_t) :: memory(0:767) = 0, buffer(512) = 0, number
+  ! The six words of a step that has no line: the first two words of the buffer are put into the output register.
+  integer(c_int32_t), parameter :: put_back(6) = [11, 4, 0, 4, 2, 0]
+  integer(c_int32_t) :: memory(0:767) = 0, buffer(512) = 0, answer(4), number
 
   number = pagontxu_crate_line(memory, 768_c_size_t, 0_c_int32_t, "n=3 kind=1 r=2", 14_c_size_t)
+  if (number /= 0) stop 1
+  number = pagontxu_crate_line(memory, 768_c_size_t, 3_c_int32_t, "n=4 kind=2 r=2", 14_c_size_t)
   if (number /= 0) stop 1
   call run("op=front n=3 a=0 v=16777215")
   call run("op=naf n=3 a=0 f=26 w=0")
@@ -62,16 +66,29 @@ program rehearse_once
   call run("op=lam")
   call run("op=front n=3 a=1 v=7")
   call run("op=scan n=3 a=0 f=2 to=3 limit=8")
+  call run("op=put n=4 a=0 to=4 limit=2 w=5")
+  call run("op=naf n=4 a=1 f=18 w=8")
+  call run("op=scan n=4 a=0 f=0 to=4 limit=2")
+  call run("op=c")
+  number = pagontxu_step(memory, 768_c_size_t, put_back, 6_c_size_t, answer, 4_c_size_t, buffer, 512_c_size_t)
+  call tell
+  call run("op=scan n=4 a=0 f=0 to=4 limit=2")
   call run("op=naf n=24 a=0 f=0 w=0")
 
 contains
 
-  ! Runs a line, and prints its answer as the sheet of a rehearsal does, without the step's number.
+  ! Runs a line and prints its answer.
   subroutine run(line)
     character(len=*), intent(in) :: line
-    integer(c_int32_t) :: answer(4), i
 
     number = pagontxu_run_line(memory, 768_c_size_t, line, len(line, c_size_t), answer, 4_c_size_t, buffer, 512_c_size_t)
+    call tell
+  end subroutine
+
+  ! Prints the answer as the sheet of a rehearsal does, without the step's number.
+  subroutine tell
+    integer(c_int32_t) :: i
+
     select case (answer(1))
     case (0)
       print "(a, i0)", "refused=", answer(2)
@@ -88,6 +105,8 @@ contains
       do i = 1, answer(3)
         print "(a, i0)", "word=", buffer(i)
       end do
+    case (6)
+      print "(3(a, i0))", "end=", answer(2), " words=", answer(3), " cycles=", answer(4)
     end select
   end subroutine
 end program

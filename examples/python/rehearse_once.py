@@ -1,4 +1,4 @@
-"""A scaler with two registers in station 3, rehearsed line by line, by ctypes. From the repository's root:
+"""A scaler in station 3 and an output register in station 4, rehearsed line by line, by ctypes. From the repository's root:
 
     rt staticlib capi
     gcc -shared -o target/libpagontxu.so -Wl,--whole-archive target/staticlib/libcapi.a -Wl,--no-whole-archive
@@ -38,6 +38,7 @@ class Crate:
         3: ("done",),
         4: ("l", "count", "first"),
         5: ("end", "words", "cycles"),
+        6: ("end", "words", "cycles"),
     }
 
     def __init__(self, lib, lines):
@@ -71,7 +72,7 @@ class Crate:
 
 
 def main():
-    crate = Crate(load(sys.argv[1]), [b"n=3 kind=1 r=2"])
+    crate = Crate(load(sys.argv[1]), [b"n=3 kind=1 r=2", b"n=4 kind=2 r=2"])
     for line in (
         b"op=front n=3 a=0 v=16777215",
         b"op=naf n=3 a=0 f=26 w=0",
@@ -81,6 +82,12 @@ def main():
     ):
         print(crate.run_line(line))
     print(crate.step(7, 3, 0, 2, 3, 8))
+    print(crate.run_line(b"op=put n=4 a=0 to=4 limit=2 w=5"))
+    print(crate.run_line(b"op=naf n=4 a=1 f=18 w=8"))
+    print(crate.run_line(b"op=scan n=4 a=0 f=0 to=4 limit=2"))
+    print(crate.run_line(b"op=c"))
+    print(crate.step(11, 4, 0, 4, 2))  # puts the words back that the scan saved in the buffer
+    print(crate.run_line(b"op=scan n=4 a=0 f=0 to=4 limit=2"))
     print(crate.run_line(b"op=naf n=24 a=0 f=0 w=0"))
 
 

@@ -38,6 +38,7 @@ fn answer_number(answer: Answer) -> u32
         Answer::Done => 0,
         Answer::Looked(_) => 0,
         Answer::Transferred(_) => 0,
+        Answer::Wrote(_) => 0,
     }
 }
 

@@ -5,7 +5,7 @@ use mathlib.Core.Path.{_≡_, sym, ap, subst, _∙_}
 use mathlib.Core.Bool.{true}
 use mathlib.Core.List.{List}
 use native.Mathlib.Omega.{arith}
-use lib.ListN.{length}
+use lib.ListN.{length, getD, take, replicate}
 use Rattle.station.specs.declared.Reply.{Reply}
 use Rattle.dataway.specs.Crate.{FitCrate}
 use Rattle.dataway.specs.Stations.{replyOf, afterCommand, takenOf, afterFront}
@@ -16,18 +16,19 @@ use Rattle.transfer.specs.Cycle.{Ended, transferOf, bufferAfter}
 use Rattle.transfer.specs.Scan.{scanOf}
 use Rattle.transfer.specs.Repeat.{repeatOf}
 use Rattle.transfer.specs.Stop.{stopOf}
+use Rattle.transfer.specs.Put.{putOf}
 use Rattle.transfer.specs.declared.Transfer.{Transfer}
 use Rattle.step.specs.Verdict.{stepVerdict, isFine}
-use Rattle.step.proofs.Fine.{transfer-bound, command-fine, front-fine, inhibit-fine, scan-fields, repeat-fields, stop-fields}
+use Rattle.step.proofs.Fine.{transfer-bound, command-fine, front-fine, inhibit-fine, scan-fields, repeat-fields, stop-fields, narrow-at, put-fields, put-lent-fields}
 use Rattle.step.specs.declared.Refusal.{Refusal}
 use Rattle.step.specs.declared.Reading.{Reading}
 use Rattle.step.specs.declared.Reading.the-variants.{Good, Bad}
 use Rattle.step.specs.declared.Verdict.{Verdict}
 use Rattle.step.specs.declared.Verdict.the-variants.{Fine, Refuse}
 use Rattle.step.specs.declared.Step.{Step}
-use Rattle.step.specs.declared.Step.the-variants.{Command, Front, Z, C, Inhibit, LookAtMe, Scan, Repeat, Stop}
+use Rattle.step.specs.declared.Step.the-variants.{Command, Front, Z, C, Inhibit, LookAtMe, Scan, Repeat, Stop, Put, PutLent}
 use Rattle.controller.specs.declared.Answer.{Answer}
-use Rattle.controller.specs.declared.Answer.the-variants.{Replied, Taken, Done, Looked, Transferred, Refused}
+use Rattle.controller.specs.declared.Answer.the-variants.{Replied, Taken, Done, Looked, Transferred, Wrote, Refused}
 use Rattle.controller.specs.Steps.{order, Performed, performed, actOf, judgedOf, doneOf}
 use Rattle.controller.proofs.StepLaws.{done-fit}
 
@@ -59,6 +60,18 @@ module _ (s : Step) (b : List ℕ) (good : isFine (stepVerdict s b) ≡ true) wh
   stop-good n a f limit e =
       let h = stop-fields n a f limit (length b) (rw e at good) in
       (h .0, h .1, h .2, omega (arith, transfer-bound f (h .3)), h .5, h .6)
+
+  pub put-good : (n a to limit w : ℕ) → s ≡ Put n a to limit w
+      → (1 ≤ n) × (n ≤ to) × (to ≤ 23) × (a ≤ 15) × (1 ≤ limit) × (limit ≤ 512) × (w ≤ 16777215)
+  put-good n a to limit w e =
+      let h = put-fields n a to limit w (rw e at good) in
+      (h .0, h .3, h .4, h .2, h .5, h .6, h .7)
+
+  pub put-lent-good : (n a to limit : ℕ) → s ≡ PutLent n a to limit
+      → ((1 ≤ n) × (n ≤ to) × (to ≤ 23) × (a ≤ 15) × (1 ≤ limit) × (limit ≤ 512) × (limit ≤ length b)) × ((k : ℕ) → getD (take limit b) k 0 ≤ 16777215)
+  put-lent-good n a to limit e =
+      let h = put-lent-fields n a to limit b (rw e at good) in
+      ((h .0, h .3, h .4, h .2, h .5, h .6, h .7), narrow-at (take limit b) (h .8))
 
 -- ---- what each arm comes to, from what its call ensures
 module _ (s : Step) (m m′ b : List ℕ) where
@@ -94,6 +107,14 @@ module _ (s : Step) (m m′ b : List ℕ) where
     pub stop-acts : (n a f limit : ℕ) → s ≡ Stop n a f limit → r ≡ transferOf (stopOf m n a f limit)
         → m′ ≡ stopOf m n a f limit .memory → b′ ≡ bufferAfter (stopOf m n a f limit) b → actOf m s b ≡ performed m′ (Transferred r) b′
     stop-acts n a f limit e = ended (stopOf m n a f limit) (rw e)
+
+  pub put-acts : (n a to limit w : ℕ) (r : Transfer) → s ≡ Put n a to limit w → r ≡ transferOf (putOf m n a to limit (replicate limit w))
+      → m′ ≡ putOf m n a to limit (replicate limit w) .memory → actOf m s b ≡ performed m′ (Wrote r) b
+  put-acts n a to limit w r e p q = rw (e, p, q)
+
+  pub put-lent-acts : (n a to limit : ℕ) (r : Transfer) → s ≡ PutLent n a to limit → r ≡ transferOf (putOf m n a to limit (take limit b))
+      → m′ ≡ putOf m n a to limit (take limit b) .memory → actOf m s b ≡ performed m′ (Wrote r) b
+  put-lent-acts n a to limit r e p q = rw (e, p, q)
 
 -- the Look-at-Me reading changes nothing
 pub lam-acts : (s : Step) (m b : List ℕ) (p : LamReading) → s ≡ LookAtMe → p ≡ lamOf m → actOf m s b ≡ performed m (Looked p) b

@@ -21,14 +21,14 @@ use Rattle.step.proofs.Fine.{command-fine, scan-fields}
 use Rattle.step.specs.declared.Refusal.{Refusal}
 use Rattle.step.specs.declared.Refusal.the-variants.{UnfitCrate}
 use Rattle.step.specs.declared.Step.{Step}
-use Rattle.step.specs.declared.Step.the-variants.{Command, Front, Z, C, Inhibit, LookAtMe, Scan, Repeat, Stop}
+use Rattle.step.specs.declared.Step.the-variants.{Command, Front, Z, C, Inhibit, LookAtMe, Scan, Repeat, Stop, Put, PutLent}
 use Rattle.step.specs.declared.Reading.the-variants.{Good}
 use Rattle.step.specs.declared.Verdict.{Verdict}
 use Rattle.step.specs.declared.Verdict.the-variants.{Fine, Refuse}
 use Rattle.controller.specs.Steps.{order, Performed, refused, actOf, judgedOf, doneOf, stepOf, leaves, gives}
 use Rattle.controller.specs.Finished.{Scanned, FinishedScan, RepliesAreWords}
 use Rattle.controller.specs.declared.Answer.{Answer}
-use Rattle.controller.specs.declared.Answer.the-variants.{Replied, Taken, Done, Looked, Transferred, Refused}
+use Rattle.controller.specs.declared.Answer.the-variants.{Replied, Taken, Done, Looked, Transferred, Wrote, Refused}
 
 -- ---- a step whose answer is no refusal was done
 pub record Did (m : List ℕ) (s : Step) (b : List ℕ) : Type 0 where
@@ -60,6 +60,7 @@ transferIn (Replied p) = record { end = 0; words = 0; cycles = 0 }
 transferIn (Taken v) = record { end = 0; words = 0; cycles = 0 }
 transferIn Done = record { end = 0; words = 0; cycles = 0 }
 transferIn (Looked p) = record { end = 0; words = 0; cycles = 0 }
+transferIn (Wrote p) = record { end = 0; words = 0; cycles = 0 }
 transferIn (Refused q) = record { end = 0; words = 0; cycles = 0 }
 
 -- equal ends and memories
@@ -118,6 +119,7 @@ replyIn (Transferred p) = record { x = 0; q = 0; r = 0 }
 replyIn (Taken v) = record { x = 0; q = 0; r = 0 }
 replyIn Done = record { x = 0; q = 0; r = 0 }
 replyIn (Looked p) = record { x = 0; q = 0; r = 0 }
+replyIn (Wrote p) = record { x = 0; q = 0; r = 0 }
 replyIn (Refused q) = record { x = 0; q = 0; r = 0 }
 
 -- only a command answers so
@@ -137,6 +139,8 @@ act-words m LookAtMe b p g v e = absurd (let z : _≡_ {A = ℕ} 0 1 = cc in ome
 act-words m (Scan n a f to limit) b p g v e = absurd (let z : _≡_ {A = ℕ} 0 1 = cc in omega arith)
 act-words m (Repeat n a f limit tries) b p g v e = absurd (let z : _≡_ {A = ℕ} 0 1 = cc in omega arith)
 act-words m (Stop n a f limit) b p g v e = absurd (let z : _≡_ {A = ℕ} 0 1 = cc in omega arith)
+act-words m (Put n a to limit w) b p g v e = absurd (let z : _≡_ {A = ℕ} 0 1 = cc in omega arith)
+act-words m (PutLent n a to limit) b p g v e = absurd (let z : _≡_ {A = ℕ} 0 1 = cc in omega arith)
 
 pub replies-words : RepliesAreWords
 replies-words m s b p e =

@@ -23,13 +23,13 @@ use Rattle.controller.proofs.StepLaws.{law, step-done}
 use Rattle.step.specs.declared.Refusal.{Refusal}
 use Rattle.step.specs.declared.Refusal.the-variants.{UnfitCrate}
 use Rattle.step.specs.declared.Step.{Step}
-use Rattle.step.specs.declared.Step.the-variants.{Command, Front, Z, C, Inhibit, LookAtMe, Scan, Repeat, Stop}
+use Rattle.step.specs.declared.Step.the-variants.{Command, Front, Z, C, Inhibit, LookAtMe, Scan, Repeat, Stop, Put, PutLent}
 use Rattle.step.specs.declared.Reading.{Reading}
 use Rattle.step.specs.declared.Reading.the-variants.{Good, Bad}
 use Rattle.step.specs.declared.Verdict.{Verdict}
 use Rattle.step.specs.declared.Verdict.the-variants.{Fine, Refuse}
 use Rattle.controller.specs.declared.Answer.{Answer}
-use Rattle.controller.specs.declared.Answer.the-variants.{Replied, Taken, Done, Looked, Transferred, Refused}
+use Rattle.controller.specs.declared.Answer.the-variants.{Replied, Taken, Done, Looked, Transferred, Wrote, Refused}
 
 -- every step leaves the crate fit
 pub step-fit : (m : List ℕ) (o : Order) → FitCrate m → FitCrate (leaves m o)
@@ -41,6 +41,7 @@ isRefused (Taken v) = false
 isRefused Done = false
 isRefused (Looked p) = false
 isRefused (Transferred p) = false
+isRefused (Wrote p) = false
 isRefused (Refused q) = true
 
 -- a step that is done does not answer a refusal
@@ -54,6 +55,8 @@ act-answers m LookAtMe b = refl
 act-answers m (Scan n a f to limit) b = refl
 act-answers m (Repeat n a f limit tries) b = refl
 act-answers m (Stop n a f limit) b = refl
+act-answers m (Put n a to limit w) b = refl
+act-answers m (PutLent n a to limit) b = refl
 
 judged-same : (v : Verdict) (m : List ℕ) (s : Step) (b : List ℕ) → isRefused (judgedOf v m s b .out .answer) ≡ true
     → (judgedOf v m s b .memory ≡ m) × (judgedOf v m s b .out .buffer ≡ b)
@@ -120,6 +123,8 @@ act-long m (Repeat n a f limit tries) b e =
 act-long m (Stop n a f limit) b e =
     let h = stop-fields n a f limit (length b) e in
     ended-long (stopOf m n a f limit) b limit (stop-words (reads f) n a limit m) (h .6)
+act-long m (Put n a to limit w) b e = refl
+act-long m (PutLent n a to limit) b e = refl
 
 judged-long : (v : Verdict) (m : List ℕ) (s : Step) (b : List ℕ) → stepVerdict s b ≡ v → length (judgedOf v m s b .out .buffer) ≡ length b
 judged-long Fine m s b e = act-long m s b (ap isFine e)
@@ -145,7 +150,8 @@ answerFrom ws =
     (cond (eqb (getD ws 0 0) 2) (Taken (getD ws 1 0))
     (cond (eqb (getD ws 0 0) 3) Done
     (cond (eqb (getD ws 0 0) 4) (Looked (record { l = getD ws 1 0; count = getD ws 2 0; first = getD ws 3 0 }))
-    (Transferred (record { end = getD ws 1 0; words = getD ws 2 0; cycles = getD ws 3 0 }))))))
+    (cond (eqb (getD ws 0 0) 5) (Transferred (record { end = getD ws 1 0; words = getD ws 2 0; cycles = getD ws 3 0 }))
+    (Wrote (record { end = getD ws 1 0; words = getD ws 2 0; cycles = getD ws 3 0 })))))))
 
 answer-back : (a : Answer) → answerFrom (answerWords a) ≡ a
 answer-back (Refused q) = ap Refused (row-number q)
@@ -154,6 +160,7 @@ answer-back (Taken v) = refl
 answer-back Done = refl
 answer-back (Looked p) = refl
 answer-back (Transferred p) = refl
+answer-back (Wrote p) = refl
 
 pub words-answer : (a b : Answer) → answerWords a ≡ answerWords b → a ≡ b
 words-answer a b e = sym (answer-back a) ∙ ap answerFrom e ∙ answer-back b

@@ -5,7 +5,7 @@ use mathlib.Core.Bool.{Bool, true, false, cond, _&&_}
 use mathlib.Core.List.{List, _++_}
 use Prim.Native.Nat.{ℕ}
 use borrow.Author.Tests.{eq-eqb, le-leb}
-use lib.ListN.{length, drop}
+use lib.ListN.{length, take, drop, replicate}
 use Rattle.regroup.specs.Local.{Local}
 use Rattle.regroup.specs.Lists.{Law}
 use Rattle.regroup.proofs.Local.{local-none, local-map}
@@ -19,19 +19,21 @@ use Rattle.transfer.specs.Cycle.{Told, told}
 use Rattle.transfer.specs.Scan.{scanOf}
 use Rattle.transfer.specs.Repeat.{repeatOf}
 use Rattle.transfer.specs.Stop.{stopOf}
-use Rattle.transfer.proofs.Locality.{local-scan, local-repeat, local-stop}
+use Rattle.transfer.specs.Put.{putOf}
+use Rattle.transfer.proofs.Locality.{local-scan, local-put, local-repeat, local-stop}
+use Rattle.transfer.proofs.Putting.{same-narrow}
 use Rattle.step.specs.Verdict.{stepVerdict, isFine}
 use Rattle.step.specs.Touches.{reach, touchesOf}
 use Rattle.step.specs.declared.Refusal.{Refusal}
-use Rattle.step.proofs.Fine.{command-fine, front-fine, inhibit-fine, scan-fine, repeat-fine, stop-fine}
+use Rattle.step.proofs.Fine.{command-fine, front-fine, inhibit-fine, scan-fine, repeat-fine, stop-fine, narrow-at, put-fields, put-lent-fields}
 use Rattle.step.specs.declared.Refusal.the-variants.{UnfitCrate}
 use Rattle.step.specs.declared.Step.{Step}
-use Rattle.step.specs.declared.Step.the-variants.{Command, Front, Z, C, Inhibit, LookAtMe, Scan, Repeat, Stop}
+use Rattle.step.specs.declared.Step.the-variants.{Command, Front, Z, C, Inhibit, LookAtMe, Scan, Repeat, Stop, Put, PutLent}
 use Rattle.step.specs.declared.Reading.{Reading}
 use Rattle.step.specs.declared.Reading.the-variants.{Good, Bad}
 use Rattle.step.specs.declared.Verdict.{Verdict}
 use Rattle.step.specs.declared.Verdict.the-variants.{Fine, Refuse}
-use Rattle.controller.specs.declared.Answer.the-variants.{Replied, Taken, Transferred, Refused}
+use Rattle.controller.specs.declared.Answer.the-variants.{Replied, Taken, Transferred, Wrote, Refused}
 use Rattle.controller.specs.Steps.{Order, Out, Performed, refused, actOf, judgedOf, readingDone, doneOf, stepOf, leaves, gives, touches}
 use Rattle.controller.specs.Regrouping.{beyond, Regrouping}
 
@@ -50,6 +52,10 @@ toldOut b t = record {
   answer = Transferred (record { end = t .end; words = length (t .words); cycles = t .cycles });
   buffer = t .words ++ drop (length (t .words)) b;
 }
+
+-- the same of a put: the buffer stays
+abbrev wroteOut : List ℕ → Told → Out
+wroteOut b t = record { answer = Wrote (record { end = t .end; words = length (t .words); cycles = t .cycles }); buffer = b }
 
 -- ---- one case a kind of step
 good : (s : Step) (b : List ℕ) → isFine (stepVerdict s b) ≡ true
@@ -85,6 +91,18 @@ good (Stop n a f limit) b e =
     let on = reach (Stop n a f limit) in
     local-map FitCrate crate-size on (λ (m : List ℕ). stopOf m n a f limit .memory) (λ (m : List ℕ). told (stopOf m n a f limit)) (toldOut b)
     (local-stop n a (h .0) (h .2) on f limit (h .1) (eq-eqb n n refl))
+good (Put n a to limit w) b e =
+    let h = put-fields n a to limit w e in
+    let on = reach (Put n a to limit w) in
+    let ws = replicate limit w in
+    local-map FitCrate crate-size on (λ (m : List ℕ). putOf m n a to limit ws .memory) (λ (m : List ℕ). told (putOf m n a to limit ws)) (wroteOut b)
+    (local-put n a (h .0) (h .2) on to limit ws (same-narrow limit w (h .7)) (h .4) (λ i p q. rw (le-leb n i p, le-leb i to q)))
+good (PutLent n a to limit) b e =
+    let h = put-lent-fields n a to limit b e in
+    let on = reach (PutLent n a to limit) in
+    let ws = take limit b in
+    local-map FitCrate crate-size on (λ (m : List ℕ). putOf m n a to limit ws .memory) (λ (m : List ℕ). told (putOf m n a to limit ws)) (wroteOut b)
+    (local-put n a (h .0) (h .2) on to limit ws (narrow-at ws (h .8)) (h .4) (λ i p q. rw (le-leb n i p, le-leb i to q)))
 
 -- ---- any step, refused or not
 local-done : (o : Order) → Local FitCrate (touches o) (λ (m : List ℕ). doneOf m o .memory) (λ (m : List ℕ). doneOf m o .out)

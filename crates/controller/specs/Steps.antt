@@ -1,8 +1,9 @@
--- One step: the memory that it leaves, its answer, and its buffer afterwards. First 9, then 1, then the fields from left to right, 8 last; a refusal
--- changes nothing.
+-- One step: the memory that it leaves, its answer, and its buffer afterwards. First 9, then 1, then the fields from left to right, then 8 (and
+-- in a put of lent words 5); a refusal changes nothing.
 use Prim.Native.Nat.{ℕ}
 use mathlib.Core.Bool.{Bool, cond}
 use mathlib.Core.List.{List}
+use lib.ListN.{take, replicate}
 use Rattle.dataway.specs.Crate.{isFitCrate}
 use Rattle.dataway.specs.Stations.{replyOf, afterCommand, takenOf, afterFront}
 use Rattle.dataway.specs.Controls.{afterZ, afterC, afterI}
@@ -11,18 +12,19 @@ use Rattle.transfer.specs.Cycle.{Ended, transferOf, bufferAfter}
 use Rattle.transfer.specs.Scan.{scanOf}
 use Rattle.transfer.specs.Repeat.{repeatOf}
 use Rattle.transfer.specs.Stop.{stopOf}
+use Rattle.transfer.specs.Put.{putOf}
 use Rattle.step.specs.Verdict.{stepVerdict}
 use Rattle.step.specs.Touches.{touchesOf}
 use Rattle.step.specs.declared.Refusal.{Refusal}
 use Rattle.step.specs.declared.Refusal.the-variants.{UnfitCrate}
 use Rattle.step.specs.declared.Step.{Step}
-use Rattle.step.specs.declared.Step.the-variants.{Command, Front, Z, C, Inhibit, LookAtMe, Scan, Repeat, Stop}
+use Rattle.step.specs.declared.Step.the-variants.{Command, Front, Z, C, Inhibit, LookAtMe, Scan, Repeat, Stop, Put, PutLent}
 use Rattle.step.specs.declared.Reading.{Reading}
 use Rattle.step.specs.declared.Reading.the-variants.{Good, Bad}
 use Rattle.step.specs.declared.Verdict.{Verdict}
 use Rattle.step.specs.declared.Verdict.the-variants.{Fine, Refuse}
 use Rattle.controller.specs.declared.Answer.{Answer}
-use Rattle.controller.specs.declared.Answer.the-variants.{Replied, Taken, Done, Looked, Transferred, Refused}
+use Rattle.controller.specs.declared.Answer.the-variants.{Replied, Taken, Done, Looked, Transferred, Wrote, Refused}
 
 -- a step of a list: its reading, and the words of the buffer that it is handed
 pub record Order : Type 0 where
@@ -49,11 +51,15 @@ performed m a b = record { memory = m; out = record { answer = a; buffer = b } }
 abbrev pub transferred : Ended → List ℕ → Performed
 transferred e b = performed (e .memory) (Transferred (transferOf e)) (bufferAfter e b)
 
+-- a put that ended so: the buffer stays as it was
+abbrev pub wrote : Ended → List ℕ → Performed
+wrote e b = performed (e .memory) (Wrote (transferOf e)) b
+
 -- a refusal returns only its number and changes nothing
 abbrev pub refused : Refusal → List ℕ → List ℕ → Performed
 refused q m b = performed m (Refused q) b
 
--- what each of the nine kinds of step does, where it is not refused
+-- what each kind of step does, where it is not refused; a put offers `limit` words, each w, or the first `limit` words of its buffer
 abbrev pub actOf : List ℕ → Step → List ℕ → Performed
 actOf m (Command n a f w) b = performed (afterCommand m n a f w) (Replied (replyOf m n a f w)) b
 actOf m (Front n a v) b = performed (afterFront m n a v) (Taken (takenOf m n a v)) b
@@ -64,13 +70,15 @@ actOf m LookAtMe b = performed m (Looked (lamOf m)) b
 actOf m (Scan n a f to limit) b = transferred (scanOf m n a f to limit) b
 actOf m (Repeat n a f limit tries) b = transferred (repeatOf m n a f limit tries) b
 actOf m (Stop n a f limit) b = transferred (stopOf m n a f limit) b
+actOf m (Put n a to limit w) b = wrote (putOf m n a to limit (replicate limit w)) b
+actOf m (PutLent n a to limit) b = wrote (putOf m n a to limit (take limit b)) b
 
 -- a step with its verdict
 abbrev pub judgedOf : Verdict → List ℕ → Step → List ℕ → Performed
 judgedOf Fine m s b = actOf m s b
 judgedOf (Refuse q) m s b = refused q m b
 
--- a reading: 1 where it is no step, else the fields from left to right, 8 last, else what the step does
+-- a reading: 1 where it is no step, else the verdict on its fields and its buffer, else what the step does
 abbrev pub readingDone : List ℕ → Reading → List ℕ → Performed
 readingDone m (Good s) b = judgedOf (stepVerdict s b) m s b
 readingDone m (Bad q) b = refused q m b

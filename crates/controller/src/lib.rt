@@ -30,6 +30,8 @@ pub enum Answer {
     Looked(LamReading),
     // A scan, a Repeat or a Stop: end, words and cycles.
     Transferred(Transfer),
+    // A put: end, words used up and cycles.
+    Wrote(Transfer),
     // A step that is refused.
     Refused(Refusal),
 }
@@ -79,6 +81,17 @@ fn act(memory: &mut [u32], step: Step, buffer: &mut [u32]) -> Answer
             f,
             limit,
         )),
+        Step::Put { n, a, to, limit, w } => Answer::Wrote(transfer::put::put_word(
+            memory,
+            n,
+            a,
+            to,
+            limit,
+            w,
+        )),
+        Step::PutLent { n, a, to, limit } => {
+            Answer::Wrote(transfer::put::put_lent(memory, buffer, n, a, to, limit))
+        }
     }
 }
 

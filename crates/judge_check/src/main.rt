@@ -88,6 +88,42 @@ fn stop(lent: usize, n: u32, a: u32, f: u32, limit: u32) {
     );
 }
 
+fn put(n: u32, a: u32, to: u32, limit: u32, w: u32) {
+    lend(
+        0,
+        Step::Put {
+            n: n,
+            a: a,
+            to: to,
+            limit: limit,
+            w: w,
+        },
+    );
+}
+
+// The verdict on a step that is lent so many words, zeros but for the word w at one place.
+fn lend_word(lent: usize, at: usize, w: u32, step: Step) {
+    if at < ROOM {
+        let mut words = [0u32; ROOM];
+        words[at] = w;
+        show_step(step, &words, lent);
+    }
+}
+
+fn put_lent(lent: usize, at: usize, w: u32, n: u32, a: u32, to: u32, limit: u32) {
+    lend_word(
+        lent,
+        at,
+        w,
+        Step::PutLent {
+            n: n,
+            a: a,
+            to: to,
+            limit: limit,
+        },
+    );
+}
+
 fn module(previous: u32, n: u32, kind: u32, r: u32) {
     show(step::judge_module(
         previous,
@@ -216,6 +252,35 @@ fn modules() {
     module(9, 10, 4, 16);
 }
 
+fn puts() {
+    put(1, 0, 23, 512, 16777215);
+    put(0, 16, 24, 513, 16777216);
+    put(24, 16, 0, 0, 16777216);
+    put(5, 16, 4, 513, 16777216);
+    put(5, 15, 4, 513, 16777216);
+    put(5, 15, 24, 513, 16777216);
+    put(5, 15, 23, 513, 16777216);
+    put(5, 15, 23, 0, 16777216);
+    put(5, 15, 23, 512, 16777216);
+    put(5, 15, 23, 512, 16777215);
+}
+
+fn lent_puts() {
+    // a bad word past the limit, within it, and fewer words than the limit
+    put_lent(4, 3, 4294967295, 5, 0, 5, 3);
+    put_lent(4, 3, 4294967295, 5, 0, 5, 4);
+    put_lent(2, 0, 4294967295, 5, 0, 5, 3);
+    put_lent(0, 0, 0, 5, 0, 5, 0);
+    put_lent(512, 511, 16777216, 1, 15, 23, 512);
+    put_lent(513, 512, 16777216, 1, 15, 23, 512);
+    put_lent(512, 0, 16777215, 1, 15, 23, 512);
+    put_lent(0, 0, 0, 0, 16, 24, 513);
+    put_lent(0, 0, 0, 5, 16, 4, 513);
+    put_lent(0, 0, 0, 5, 15, 4, 513);
+    put_lent(0, 0, 0, 5, 15, 23, 513);
+    put_lent(0, 0, 0, 5, 15, 23, 1);
+}
+
 fn main() {
     // the two that no field decides
     show(Verdict::Refuse(Refusal::Garbled));
@@ -229,4 +294,6 @@ fn main() {
     stops();
     module_orders();
     modules();
+    puts();
+    lent_puts();
 }

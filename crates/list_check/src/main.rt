@@ -4,6 +4,7 @@ use controller::Answer;
 use libc::STDIN_FILENO;
 use libc::STDOUT_FILENO;
 use step::Reading;
+use step::Refusal;
 use step::Verdict;
 ghost use Prim.Native.Nat.{_≤_};
 ghost use lib.ListN.{length};
@@ -33,6 +34,9 @@ const BUFFERS_WORDS: usize = 10240;
 
 // The words of a single transfer's buffer.
 const ONE_BUFFER: usize = 16;
+
+// More than any put offers.
+const LONG_BUFFER: usize = 600;
 
 // What answers and buffers hold before a call, so that it shows which words the call stores.
 const MARK: u32 = 77;
@@ -273,6 +277,40 @@ fn one(case: u32, as_step: bool, memory: &[u32], line: &[u8], lent: usize, y: u3
     end_line();
 }
 
+// The first step of a list by `run_step`, lent so many words.
+fn first_step(memory: &mut [u32], steps: &[u32], buffer: &mut [u32], lent: usize) -> Answer {
+    let lent = least(lent, buffer.len());
+    if 6 <= steps.len() {
+        if let Reading::Good(step) = lists::read_step(&steps[..6]) {
+            return rehearsal::run_step(memory, step, &mut buffer[..lent]);
+        }
+    }
+    Answer::Refused(Refusal::Garbled)
+}
+
+// Numbers 3 to 6 are the first four words of the buffer.
+fn fill(buffer: &mut [u32], numbers: &[u32]) {
+    set(buffer, 0, word(numbers, 3));
+    set(buffer, 1, word(numbers, 4));
+    set(buffer, 2, word(numbers, 5));
+    set(buffer, 3, word(numbers, 6));
+}
+
+// The first step of the list with words lent: its answer, the first four registers of station 6, and how many words it changed.
+fn lend(case: u32, memory: &[u32], steps: &[u32], numbers: &[u32]) {
+    let mut m = [0u32; 768];
+    copy(memory, &mut m);
+    let mut full = [MARK; LONG_BUFFER];
+    fill(&mut full, numbers);
+    let mut buffer = full;
+    let answer = first_step(&mut m, steps, &mut buffer, place(numbers, 2));
+    show_one(case, answer, &buffer);
+    show_words(b" ;", &m, 208, 212);
+    show_changes(b" memory=", memory, &m);
+    show_changes(b" buffer=", &full, &buffer);
+    end_line();
+}
+
 // Two lists of four steps on equal crates, but for I, which is x in the second.
 fn pair(case: u32, memory: &[u32], x: u32, steps: &[u32], second: &[u32]) {
     let mut m1 = [0u32; 768];
@@ -361,6 +399,9 @@ fn do_call(op: u8, numbers: &[u32], text: &[u8], memory: &mut [u32], steps: &[u3
                 place(numbers, 2),
                 word(numbers, 3),
             );
+        }
+        b'B' => {
+            lend(case, memory, steps, numbers);
         }
         b'P' => {
             two_lists(case, memory, word(numbers, 2), steps);

@@ -17,7 +17,7 @@ use Rattle.controller.proofs.StepLaws.{step-done}
 use Rattle.lists.specs.Words.{kindsOf, readingOf, withPart, orderAt}
 use Rattle.lists.proofs.Parts.{part-lent, part-back}
 
--- a number that is none of the nine is garbled
+-- a number that is no kind of step is garbled
 pub reading-else : (w : List ℕ) → Rest Unit (getD w 0 0) (kindsOf w) → Bad Garbled ≡ readingOf w
 unfolding readingOf
 reading-else w h = sym (case-else Unit (getD w 0 0) (kindsOf w) (Bad Garbled) h .1)

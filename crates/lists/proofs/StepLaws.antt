@@ -6,7 +6,7 @@ use mathlib.Core.List.{List, [], _∷_}
 use native.Mathlib.Omega.{arith}
 use lib.ListN.{length, set}
 use Rattle.step.specs.declared.Step.{Step}
-use Rattle.step.specs.declared.Step.the-variants.{Command, Front, Z, C, Inhibit, LookAtMe, Scan, Repeat, Stop}
+use Rattle.step.specs.declared.Step.the-variants.{Command, Front, Z, C, Inhibit, LookAtMe, Scan, Repeat, Stop, Put, PutLent}
 use Rattle.step.specs.declared.Reading.{Reading}
 use Rattle.step.specs.declared.Reading.the-variants.{Good, Bad}
 use Rattle.lists.specs.Words.{stepWords, kindsOf, readingOf}
@@ -35,6 +35,8 @@ step-words LookAtMe = (refl, refl)
 step-words (Scan n a f to limit) = (refl, refl)
 step-words (Repeat n a f limit tries) = (refl, refl)
 step-words (Stop n a f limit) = (refl, refl)
+step-words (Put n a to limit w) = (refl, refl)
+step-words (PutLent n a to limit) = (refl, refl)
 
 -- has six words
 pub words-six : (s : Step) → length (stepWords s) ≡ 6

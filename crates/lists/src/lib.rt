@@ -64,6 +64,19 @@ pub fn read_step(words: &[u32]) -> Reading
             f: r,
             limit: s,
         }),
+        10 => Reading::Good(Step::Put {
+            n: p,
+            a: q,
+            to: r,
+            limit: s,
+            w: t,
+        }),
+        11 => Reading::Good(Step::PutLent {
+            n: p,
+            a: q,
+            to: r,
+            limit: s,
+        }),
         _ => Reading::Bad(Refusal::Garbled),
     }
 }
@@ -102,6 +115,8 @@ pub fn write_step(out: &mut [u32], step: Step)
             tries,
         } => put_six(out, 8, n, a, f, limit, tries),
         Step::Stop { n, a, f, limit } => put_six(out, 9, n, a, f, limit, 0),
+        Step::Put { n, a, to, limit, w } => put_six(out, 10, n, a, to, limit, w),
+        Step::PutLent { n, a, to, limit } => put_six(out, 11, n, a, to, limit, 0),
     }
 }
 
@@ -128,6 +143,7 @@ pub fn write_answer(out: &mut [u32], answer: Answer)
         Answer::Done => put_four(out, 3, 1, 0, 0),
         Answer::Looked(p) => put_four(out, 4, p.l, p.count, p.first),
         Answer::Transferred(p) => put_four(out, 5, p.end, p.words, p.cycles),
+        Answer::Wrote(p) => put_four(out, 6, p.end, p.words, p.cycles),
     }
 }
 

@@ -88,6 +88,17 @@ fn show_step(step: Step) {
             show_head(b"Stop n=", n, a, f);
             show_field(b" limit=", limit);
         }
+        Step::Put { n, a, to, limit, w } => {
+            show_field(b"Put n=", n);
+            show_field(b" a=", a);
+            show_field(b" to=", to);
+            show_field(b" limit=", limit);
+            show_field(b" w=", w);
+        }
+        // no line says this
+        Step::PutLent { n, a, to, limit } => {
+            show(b"PutLent");
+        }
     }
 }
 

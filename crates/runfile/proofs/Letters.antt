@@ -13,9 +13,9 @@ use Rattle.step.specs.declared.Reading.{Reading}
 use Rattle.step.specs.declared.Reading.the-variants.{Good, Bad}
 use Rattle.step.specs.declared.Refusal.the-variants.{Garbled}
 use Rattle.step.specs.declared.Step.{Step}
-use Rattle.step.specs.declared.Step.the-variants.{Command, Front, Z, C, Inhibit, LookAtMe, Repeat}
+use Rattle.step.specs.declared.Step.the-variants.{Command, Front, Z, C, Inhibit, LookAtMe, Repeat, Put}
 use Rattle.runfile.specs.Read.{absent, readField, equal, orElse, exactly, headOf}
-use Rattle.runfile.specs.Read.{nafLine, frontLine, bareLine, inhibitLine, scanLine, repeatLine, stopLine, readLine}
+use Rattle.runfile.specs.Read.{nafLine, frontLine, bareLine, inhibitLine, scanLine, repeatLine, stopLine, putLine, readLine}
 use Rattle.runfile.proofs.RunLines.{OnlyGarbled, only-ended, only-then, only-head}
 
 -- ---- a key or a word that differs from the line at place i
@@ -62,7 +62,8 @@ chosen c l =
     (orElse (at c "i" (inhibitLine l))
     (orElse (at c "l" (bareLine (bytes "op=lam") LookAtMe l))
     (orElse (at c "s" (scanLine l))
-    (orElse (at c "r" (repeatLine l)) (at c "s" (stopLine l)))))))))
+    (orElse (at c "r" (repeatLine l))
+    (orElse (at c "p" (putLine l)) (at c "s" (stopLine l))))))))))
 
 module _ (l : List ℕ) where
   -- a form that reads a line with another letter as garbled may be tried at its letter only
@@ -105,6 +106,10 @@ module _ (l : List ℕ) where
   unfolding repeatLine headOf
   at-r = at-letter "r" (repeatLine l) λ h. rw (other-field 3 (bytes "op=repeat n=") l (omega arith) h)
 
+  at-p : putLine l ≡ at (letter l) "p" (putLine l)
+  unfolding putLine
+  at-p = at-letter "p" (putLine l) λ h. rw (other-field 3 (bytes "op=put n=") l (omega arith) h)
+
   at-stop : stopLine l ≡ at (letter l) "s" (stopLine l)
   unfolding stopLine headOf
   at-stop = at-letter "s" (stopLine l) λ h. rw (other-field 3 (bytes "op=stop n=") l (omega arith) h)
@@ -115,7 +120,7 @@ module _ (l : List ℕ) where
   by-letter c e =
       ap (λ (c : ℕ). chosen c l) (sym e)
       ∙ sym (ap₂ orElse at-n (ap₂ orElse at-f (ap₂ orElse at-z (ap₂ orElse at-c (ap₂ orElse at-i (ap₂ orElse at-l
-      (ap₂ orElse at-scan (ap₂ orElse at-r at-stop))))))))
+      (ap₂ orElse at-scan (ap₂ orElse at-r (ap₂ orElse at-p at-stop)))))))))
 
 -- ---- what `read_line` answers at each letter
 -- garbled is the one refusal of a form, so a last try that is garbled changes nothing
@@ -172,6 +177,16 @@ module _ (l : List ℕ) where
       only-then (readField (bytes " tries=") r₁) _ λ tries r₂.
       only-ended r₂ (Repeat n a f limit tries)) ∙ by-letter l 114 e
 
+  pub letter-p : letter l ≡ 112 → putLine l ≡ readLine l
+  unfolding putLine
+  letter-p e = alone (putLine l)
+      (only-then (readField (bytes "op=put n=") l) _ λ n r₁.
+      only-then (readField (bytes " a=") r₁) _ λ a r₂.
+      only-then (readField (bytes " to=") r₂) _ λ to r₃.
+      only-then (readField (bytes " limit=") r₃) _ λ limit r₄.
+      only-then (readField (bytes " w=") r₄) _ λ w r₅.
+      only-ended r₅ (Put n a to limit w)) ∙ by-letter l 112 e
+
 -- a line that ends before its letter
 pub no-letter : (l : List ℕ) → length l < 4 → Bad Garbled ≡ readLine l
 no-letter l h = by-letter l 0 (none l 3 (omega arith))
@@ -184,9 +199,9 @@ no-letter l h = by-letter l 0 (none l 3 (omega arith))
 -- a letter of no form
 pub other-letter : (l : List ℕ)
     → (letter l ≡ 110 → ⊥) → (letter l ≡ 102 → ⊥) → (letter l ≡ 122 → ⊥) → (letter l ≡ 99 → ⊥)
-    → (letter l ≡ 105 → ⊥) → (letter l ≡ 108 → ⊥) → (letter l ≡ 115 → ⊥) → (letter l ≡ 114 → ⊥)
+    → (letter l ≡ 105 → ⊥) → (letter l ≡ 108 → ⊥) → (letter l ≡ 115 → ⊥) → (letter l ≡ 114 → ⊥) → (letter l ≡ 112 → ⊥)
     → Bad Garbled ≡ readLine l
-other-letter l n f z c i lam s r =
+other-letter l n f z c i lam s r p =
     let x = letter l in
-    rw (ne-eqb x 110 n, ne-eqb x 102 f, ne-eqb x 122 z, ne-eqb x 99 c, ne-eqb x 105 i, ne-eqb x 108 lam, ne-eqb x 115 s, ne-eqb x 114 r)
+    rw (ne-eqb x 110 n, ne-eqb x 102 f, ne-eqb x 122 z, ne-eqb x 99 c, ne-eqb x 105 i, ne-eqb x 108 lam, ne-eqb x 115 s, ne-eqb x 114 r, ne-eqb x 112 p)
     at (by-letter l x refl)

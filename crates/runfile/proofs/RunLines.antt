@@ -15,10 +15,10 @@ use Rattle.step.specs.declared.Reading.the-variants.{Good, Bad}
 use Rattle.step.specs.declared.Refusal.{Refusal}
 use Rattle.step.specs.declared.Refusal.the-variants.{Garbled}
 use Rattle.step.specs.declared.Step.{Step}
-use Rattle.step.specs.declared.Step.the-variants.{Command, Front, Z, C, Inhibit, LookAtMe, Scan, Repeat, Stop}
+use Rattle.step.specs.declared.Step.the-variants.{Command, Front, Z, C, Inhibit, LookAtMe, Scan, Repeat, Stop, Put, PutLent}
 use Rattle.runfile.specs.Lines.{text, FieldsFit, IsText, Reads}
 use Rattle.runfile.specs.Read.{Taken, taken, absent, Heads, heads, headless, readField, equal, ended, andThen, orElse, exactly}
-use Rattle.runfile.specs.Read.{nafLine, frontLine, bareLine, inhibitLine, scanLine, repeatLine, stopLine, readLine}
+use Rattle.runfile.specs.Read.{nafLine, frontLine, bareLine, inhibitLine, scanLine, repeatLine, stopLine, putLine, readLine}
 use Rattle.runfile.specs.Read.{thenHeads, headOf, withHead}
 use Rattle.runfile.proofs.Numbers.{read-number, field-written}
 
@@ -150,6 +150,17 @@ stop-written l s =
     and-ended l r₁ (Stop n a f limit) s λ hz.
     (rw (h₁, hz) at hl, (hn, ha, hf, hm))
 
+put-written : (l : List ℕ) (s : Step) → putLine l ≡ Good s → IsText l s
+unfolding putLine text
+put-written l s =
+    and-then (bytes "op=put n=") l _ s λ n r₁ hl hn.
+    and-then (bytes " a=") r₁ _ s λ a r₂ h₁ ha.
+    and-then (bytes " to=") r₂ _ s λ to r₃ h₂ ht.
+    and-then (bytes " limit=") r₃ _ s λ limit r₄ h₃ hm.
+    and-then (bytes " w=") r₄ _ s λ w r₅ h₄ hw.
+    and-ended l r₅ (Put n a to limit w) s λ hz.
+    (rw (h₁, h₂, h₃, h₄, hz) at hl, (hn, ha, ht, hm, hw))
+
 or-good : (a b : Reading) (s : Step) {A : Type 0} → (a ≡ Good s → A) → (b ≡ Good s → A) → orElse a b ≡ Good s → A
 or-good (Good s₀) b s first second e = first e
 or-good (Bad q) b s first second e = second e
@@ -165,11 +176,12 @@ good-is-text l s =
     (or-good (inhibitLine l) _ s (inhibit-written l s)
     (or-good (bareLine (bytes "op=lam") LookAtMe l) _ s (bare-written (bytes "op=lam") LookAtMe l s λ h. (h, tt))
     (or-good (scanLine l) _ s (scan-written l s)
-    (or-good (repeatLine l) (stopLine l) s (repeat-written l s) (stop-written l s))))))))
+    (or-good (repeatLine l) _ s (repeat-written l s)
+    (or-good (putLine l) (stopLine l) s (put-written l s) (stop-written l s)))))))))
 
 -- the text of a step is read as the step
 pub text-is-good : (s : Step) → FieldsFit s → readLine (text s) ≡ Good s
-unfolding readLine text nafLine frontLine bareLine inhibitLine scanLine repeatLine stopLine headOf
+unfolding readLine text nafLine frontLine bareLine inhibitLine scanLine repeatLine stopLine putLine headOf
 text-is-good (Command n a f w) h = rw (read-number n _ (h .0), read-number a _ (h .1), read-number f _ (h .2), read-number w _ (h .3))
 text-is-good (Front n a v) h = rw (read-number n _ (h .0), read-number a _ (h .1), read-number v _ (h .2))
 text-is-good Z h = refl
@@ -182,6 +194,9 @@ text-is-good (Repeat n a f limit tries) h =
     rw (read-number n _ (h .0), read-number a _ (h .1), read-number f _ (h .2), read-number limit _ (h .3), read-number tries _ (h .4))
 text-is-good (Stop n a f limit) h =
     rw (read-number n _ (h .0), read-number a _ (h .1), read-number f _ (h .2), read-number limit _ (h .3))
+text-is-good (Put n a to limit w) h =
+    rw (read-number n _ (h .0), read-number a _ (h .1), read-number to _ (h .2), read-number limit _ (h .3), read-number w _ (h .4))
+text-is-good (PutLent n a to limit) h = absurd h
 
 -- a bad reading has the one number, garbled
 abbrev pub OnlyGarbled : Reading → Type 0
@@ -210,10 +225,10 @@ unfolding readLine stopLine
 only-garbled l =
     only-or (nafLine l) _ (only-or (frontLine l) _ (only-or (bareLine (bytes "op=z") Z l) _
     (only-or (bareLine (bytes "op=c") C l) _ (only-or (inhibitLine l) _ (only-or (bareLine (bytes "op=lam") LookAtMe l) _
-    (only-or (scanLine l) _ (only-or (repeatLine l) _
+    (only-or (scanLine l) _ (only-or (repeatLine l) _ (only-or (putLine l) _
     (only-head (headOf (bytes "op=stop n=") l) _ λ n a f r.
     only-then (readField (bytes " limit=") r) _ λ limit r₁.
-    only-ended r₁ (Stop n a f limit)))))))))
+    only-ended r₁ (Stop n a f limit))))))))))
 
 pub reads : (l : List ℕ) → Reads l (readLine l)
 reads l = go (readLine l) refl (only-garbled l)
@@ -233,6 +248,10 @@ reads-only l (Bad q) h = go (readLine l) refl (reads l)
     go : (r : Reading) → readLine l ≡ r → Reads l r → Bad q ≡ readLine l
     go (Good s) e o = absurd (h .1 s o)
     go (Bad q′) e o = ap Bad (h .0 ∙ sym (o .0)) ∙ sym e
+
+-- no line says a put of lent words
+pub no-lent-line : (l : List ℕ) (n a to limit : ℕ) → readLine l ≡ Good (PutLent n a to limit) → ⊥
+no-lent-line l n a to limit e = good-is-text l (PutLent n a to limit) e .1
 
 -- a line in form has 72 bytes at most
 pub longest-text : (s : Step) → FieldsFit s → length (text s) ≤ 72
@@ -264,6 +283,16 @@ longest-text (Repeat n a f limit tries) h =
     ))
 longest-text (Stop n a f limit) h =
     simp length-append (omega (arith, length-eight n (h .0), length-eight a (h .1), length-eight f (h .2), length-eight limit (h .3)))
+longest-text (Put n a to limit w) h =
+    simp length-append (omega (
+      arith,
+      length-eight n (h .0),
+      length-eight a (h .1),
+      length-eight to (h .2),
+      length-eight limit (h .3),
+      length-eight w (h .4),
+    ))
+longest-text (PutLent n a to limit) h = absurd h
 
 pub short-text : (s : Step) → FieldsFit s → length (text s) ≤ 80
 short-text s h = omega (arith, longest-text s h)

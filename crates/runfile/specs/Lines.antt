@@ -11,7 +11,7 @@ use Rattle.step.specs.declared.Reading.{Reading}
 use Rattle.step.specs.declared.Reading.the-variants.{Good, Bad}
 use Rattle.step.specs.declared.Refusal.the-variants.{Garbled}
 use Rattle.step.specs.declared.Step.{Step}
-use Rattle.step.specs.declared.Step.the-variants.{Command, Front, Z, C, Inhibit, LookAtMe, Scan, Repeat, Stop}
+use Rattle.step.specs.declared.Step.the-variants.{Command, Front, Z, C, Inhibit, LookAtMe, Scan, Repeat, Stop, Put, PutLent}
 
 -- the line of a step
 unfoldable pub text : Step → List ℕ
@@ -26,6 +26,9 @@ text (Scan n a f to limit) =
 text (Repeat n a f limit tries) =
     fieldThen "op=repeat n=" n (fieldThen " a=" a (fieldThen " f=" f (fieldThen " limit=" limit (fieldThen " tries=" tries []))))
 text (Stop n a f limit) = fieldThen "op=stop n=" n (fieldThen " a=" a (fieldThen " f=" f (fieldThen " limit=" limit [])))
+text (Put n a to limit w) =
+    fieldThen "op=put n=" n (fieldThen " a=" a (fieldThen " to=" to (fieldThen " limit=" limit (fieldThen " w=" w []))))
+text (PutLent n a to limit) = []  -- it has no line: `FieldsFit` is false of it
 
 -- the line of a module
 unfoldable pub moduleText : Module → List ℕ
@@ -35,6 +38,7 @@ moduleText p = fieldThen "n=" (p .n) (fieldThen " kind=" (p .kind) (fieldThen " 
 abbrev pub Small : ℕ → Type 0
 Small n = n < 100000000
 
+-- each field of the step is such a number; a put of lent words has no line
 abbrev pub FieldsFit : Step → Type 0
 FieldsFit (Command n a f w) = Small n × Small a × Small f × Small w
 FieldsFit (Front n a v) = Small n × Small a × Small v
@@ -45,11 +49,13 @@ FieldsFit LookAtMe = Unit {0}
 FieldsFit (Scan n a f to limit) = Small n × Small a × Small f × Small to × Small limit
 FieldsFit (Repeat n a f limit tries) = Small n × Small a × Small f × Small limit × Small tries
 FieldsFit (Stop n a f limit) = Small n × Small a × Small f × Small limit
+FieldsFit (Put n a to limit w) = Small n × Small a × Small to × Small limit × Small w
+FieldsFit (PutLent n a to limit) = ⊥
 
 abbrev pub ModuleFits : Module → Type 0
 ModuleFits p = Small (p .n) × Small (p .kind) × Small (p .r)
 
--- the line l is in form, and says s. Such a line has 72 bytes at most, so a line over 80 bytes is in no form.
+-- the line l is in form, and says s. Such a line has 72 bytes at most (a Repeat; a put 66), so a line over 80 bytes is in no form.
 abbrev pub IsText : List ℕ → Step → Type 0
 IsText l s = (l ≡ text s) × FieldsFit s
 

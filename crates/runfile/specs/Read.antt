@@ -13,7 +13,7 @@ use Rattle.step.specs.declared.Reading.{Reading}
 use Rattle.step.specs.declared.Reading.the-variants.{Good, Bad}
 use Rattle.step.specs.declared.Refusal.the-variants.{Garbled}
 use Rattle.step.specs.declared.Step.{Step}
-use Rattle.step.specs.declared.Step.the-variants.{Command, Front, Z, C, Inhibit, LookAtMe, Scan, Repeat, Stop}
+use Rattle.step.specs.declared.Step.the-variants.{Command, Front, Z, C, Inhibit, LookAtMe, Scan, Repeat, Stop, Put}
 
 -- the bytes `0` to `9`
 abbrev pub digit : ℕ → Bool
@@ -143,6 +143,16 @@ stopLine l =
     andThen (readField (bytes " limit=") l3) λ limit l4.
     ended l4 (Stop n a f limit)
 
+-- op=put n= a= to= limit= w=
+unfoldable pub putLine : List ℕ → Reading
+putLine l =
+    andThen (readField (bytes "op=put n=") l) λ n l1.
+    andThen (readField (bytes " a=") l1) λ a l2.
+    andThen (readField (bytes " to=") l2) λ to l3.
+    andThen (readField (bytes " limit=") l3) λ limit l4.
+    andThen (readField (bytes " w=") l4) λ w l5.
+    ended l5 (Put n a to limit w)
+
 -- a line of a run file
 unfoldable pub readLine : List ℕ → Reading
 readLine l =
@@ -153,7 +163,8 @@ readLine l =
     (orElse (inhibitLine l)
     (orElse (bareLine (bytes "op=lam") LookAtMe l)
     (orElse (scanLine l)
-    (orElse (repeatLine l) (stopLine l))))))))
+    (orElse (repeatLine l)
+    (orElse (putLine l) (stopLine l)))))))))
 
 -- what follows a number of a crate line, if there is one
 abbrev pub andModule : Taken → (ℕ → List ℕ → ModuleLine) → ModuleLine

@@ -16,6 +16,7 @@ use step::ModuleLine;
 use step::Reading;
 use step::Refusal;
 use step::Step;
+use transfers::read_put;
 use transfers::read_repeat;
 use transfers::read_scan;
 use transfers::read_stop;
@@ -50,6 +51,7 @@ pub fn read_line(line: &[u8]) -> Reading
         b'l' => read_bare(line, b"op=lam", Step::LookAtMe),
         b's' => or_else(read_scan(line), read_stop(line)),
         b'r' => read_repeat(line),
+        b'p' => read_put(line),
         _ => Reading::Bad(Refusal::Garbled),
     }
 }

@@ -1,4 +1,4 @@
-// The lines of the block transfers: scan, Repeat and Stop.
+// The lines of the block transfers: scan, Repeat, Stop and put.
 use crate::fields::Head;
 use crate::fields::Number;
 use crate::fields::end_at;
@@ -8,7 +8,7 @@ use step::Reading;
 use step::Refusal;
 use step::Step;
 ghost use mathlib.Core.Path.{_≡_};
-ghost use Rattle.runfile.specs.Read.{scanLine, repeatLine, stopLine};
+ghost use Rattle.runfile.specs.Read.{scanLine, repeatLine, stopLine, putLine};
 
 // op=scan n= a= f= to= limit=
 pub fn read_scan(line: &[u8]) -> Reading
@@ -100,6 +100,58 @@ pub fn read_stop(line: &[u8]) -> Reading
             a: a,
             f: f,
             limit: limit,
+        },
+    )
+}
+
+// op=put n= a= to= limit= w=
+pub fn read_put(line: &[u8]) -> Reading
+    ensures { λ r. ⌜ r ≡ putLine (now (line .entry)) ⌝ }
+{
+    let Number::Value {
+        value: n,
+        next: after_n,
+    } = field_at(line, 0, b"op=put n=")
+    else {
+        return Reading::Bad(Refusal::Garbled);
+    };
+    let Number::Value {
+        value: a,
+        next: after_a,
+    } = field_at(line, after_n, b" a=")
+    else {
+        return Reading::Bad(Refusal::Garbled);
+    };
+    let Number::Value {
+        value: to,
+        next: after_to,
+    } = field_at(line, after_a, b" to=")
+    else {
+        return Reading::Bad(Refusal::Garbled);
+    };
+    let Number::Value {
+        value: limit,
+        next: after_limit,
+    } = field_at(line, after_to, b" limit=")
+    else {
+        return Reading::Bad(Refusal::Garbled);
+    };
+    let Number::Value {
+        value: w,
+        next: after_w,
+    } = field_at(line, after_limit, b" w=")
+    else {
+        return Reading::Bad(Refusal::Garbled);
+    };
+    end_at(
+        line,
+        after_w,
+        Step::Put {
+            n: n,
+            a: a,
+            to: to,
+            limit: limit,
+            w: w,
         },
     )
 }

@@ -19,7 +19,7 @@ use Rattle.step.specs.declared.Refusal.{Refusal}
 use Rattle.transfer.specs.declared.Transfer.{Transfer}
 use Rattle.controller.specs.Steps.{Out}
 use Rattle.controller.specs.declared.Answer.{Answer}
-use Rattle.controller.specs.declared.Answer.the-variants.{Replied, Taken, Done, Looked, Transferred, Refused}
+use Rattle.controller.specs.declared.Answer.the-variants.{Replied, Taken, Done, Looked, Transferred, Wrote, Refused}
 use Rattle.sheet.specs.Answers.{body, stepLine, stored, wordLine, wordLines, stepText, crateText}
 
 -- room for a number of ten digits is room for any
@@ -38,6 +38,7 @@ body-short (Taken v) = omega (arith, field-short (bytes " taken=") v)
 body-short Done = omega arith
 body-short (Looked p) = omega (arith, three-short (bytes " l=") (bytes " count=") (bytes " first=") (p .l) (p .count) (p .first))
 body-short (Transferred p) = three-short (bytes " end=") (bytes " words=") (bytes " cycles=") (p .end) (p .words) (p .cycles)
+body-short (Wrote p) = three-short (bytes " end=") (bytes " words=") (bytes " cycles=") (p .end) (p .words) (p .cycles)
 body-short (Refused q) = omega (arith, field-short (bytes " refused=") (refusalNumber q))
 
 pub line-short : (k : ℕ) (a : Answer) → length (stepLine k a) ≤ 66
@@ -96,6 +97,7 @@ stored-few (Taken v) b h = omega arith
 stored-few Done b h = omega arith
 stored-few (Looked p) b h = omega arith
 stored-few (Transferred p) b h = simp length-take (omega (arith, min-le-right (p .words) (length b)))
+stored-few (Wrote p) b h = omega arith
 stored-few (Refused q) b h = omega arith
 
 pub step-short : (k : ℕ) (o : Out) → length (o .buffer) ≤ 512 → length (stepText k o) ≤ 8258

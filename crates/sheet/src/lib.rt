@@ -59,6 +59,7 @@ fn put_body(out: &mut [u8], at: usize, answer: Answer) -> usize
         Answer::Done => put_bytes(out, at, b" done=1"),
         Answer::Looked(p) => put_reading(out, at, p),
         Answer::Transferred(p) => put_transfer(out, at, p),
+        Answer::Wrote(p) => put_transfer(out, at, p),
         Answer::Refused(q) => put_field(out, at, b" refused=", step::refusal_number(q)),
     }
 }
@@ -108,6 +109,7 @@ fn count_stored(answer: Answer, buffer: &[u32]) -> usize
         Answer::Done => 0,
         Answer::Looked(_) => 0,
         Answer::Transferred(p) => least(p.words as usize, buffer.len()),
+        Answer::Wrote(_) => 0,
         Answer::Refused(_) => 0,
     }
 }

@@ -1,16 +1,19 @@
 -- What a fine verdict says of a step's fields: each test of the list was passed, so each field is within its bounds.
 use mathlib.Core.Path.{_≡_, refl}
 use mathlib.Core.Bool.{Bool, true, false, false≢true, _||_, and-eq-true-iff}
-use Prim.Native.Nat.{ℕ, _≤_}
+use mathlib.Core.List.{List, [], _∷_}
+use Prim.Native.Nat.{ℕ, zero, suc, _≤_}
 use native.Mathlib.Omega.{arith}
 use borrow.Author.Tests.{leb-true, eqb-true}
 use lib.Dec.{leb, eqb}
+use lib.ListN.{length, take, getD}
 use Rattle.step.specs.declared.Refusal.{Refusal}
 use Rattle.step.specs.declared.Refusal.the-variants.{NoSuchStation, NoSuchSubaddress, NoSuchFunction, OverwideWord, CrossedRange, BadLength, ShortBuffer}
 use Rattle.step.specs.declared.Verdict.{Verdict}
 use Rattle.step.specs.declared.Verdict.the-variants.{Fine}
 use Rattle.step.specs.Verdict.{within, unless, isFine, transfer, stationThen, subaddressThen, transferThen}
 use Rattle.step.specs.Verdict.{commandVerdict, frontVerdict, inhibitVerdict, scanVerdict, repeatVerdict, stopVerdict}
+use Rattle.step.specs.Verdict.{areNarrow, putVerdict, putLentVerdict}
 
 -- the test was passed, and what follows it is fine
 pub unless-fine : (t : Bool) (q : Refusal) (v : Verdict) → isFine (unless t q v) ≡ true → (t ≡ true) × (isFine v ≡ true)
@@ -125,3 +128,33 @@ stop-fields n a f limit lent e =
 -- of these, where its commands go
 pub stop-fine : (n a f limit lent : ℕ) → isFine (stopVerdict n a f limit lent) ≡ true → (1 ≤ n) × (n ≤ 23) × (a ≤ 15)
 stop-fine n a f limit lent e = let p = stop-fields n a f limit lent e in (p .0, p .1, p .2)
+
+-- ---- puts
+-- words that are narrow are so at every place
+pub narrow-at : (ws : List ℕ) → areNarrow ws ≡ true → (k : ℕ) → getD ws k 0 ≤ 16777215
+narrow-at [] e k = omega arith
+narrow-at (w ∷ ws) e zero = leb-true w 16777215 (and-eq-true-iff (leb w 16777215) (areNarrow ws) .0 e .0)
+narrow-at (w ∷ ws) e (suc k) = narrow-at ws (and-eq-true-iff (leb w 16777215) (areNarrow ws) .0 e .1) k
+
+-- the fields of a put
+pub put-fields : (n a to limit w : ℕ) → isFine (putVerdict n a to limit w) ≡ true
+    → (1 ≤ n) × (n ≤ 23) × (a ≤ 15) × (n ≤ to) × (to ≤ 23) × (1 ≤ limit) × (limit ≤ 512) × (w ≤ 16777215)
+unfolding putVerdict
+put-fields n a to limit w e =
+    let p = address-fine n a _ e in
+    let q = within-fine n to 23 CrossedRange _ (p .3) in
+    let r = within-fine 1 limit 512 BadLength _ (q .2) in
+    let s = most-fine w 16777215 OverwideWord Fine (r .2) in
+    (p .0, p .1, p .2, q .0, q .1, r .0, r .1, s .0)
+
+-- the fields of a put of lent words, and those words
+pub put-lent-fields : (n a to limit : ℕ) (b : List ℕ) → isFine (putLentVerdict n a to limit b) ≡ true
+    → (1 ≤ n) × (n ≤ 23) × (a ≤ 15) × (n ≤ to) × (to ≤ 23) × (1 ≤ limit) × (limit ≤ 512) × (limit ≤ length b) × (areNarrow (take limit b) ≡ true)
+unfolding putLentVerdict
+put-lent-fields n a to limit b e =
+    let p = address-fine n a _ e in
+    let q = within-fine n to 23 CrossedRange _ (p .3) in
+    let r = within-fine 1 limit 512 BadLength _ (q .2) in
+    let s = most-fine limit (length b) ShortBuffer _ (r .2) in
+    let t = unless-fine (areNarrow (take limit b)) OverwideWord Fine (s .1) in
+    (p .0, p .1, p .2, q .0, q .1, r .0, r .1, s .0, t .0)

@@ -5,3 +5,4 @@ pub mod Numbers
 pub mod Touches
 pub mod ReachedLaws
 pub mod Rows
+pub mod Narrow

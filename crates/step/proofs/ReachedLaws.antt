@@ -8,7 +8,7 @@ use native.Mathlib.Omega.{arith}
 use borrow.Author.Tests.{eqb-true, eq-eqb, le-leb}
 use lib.ListN.{length}
 use Rattle.step.specs.declared.Step.{Step}
-use Rattle.step.specs.declared.Step.the-variants.{Command, Front, Z, C, Inhibit, LookAtMe, Scan, Repeat, Stop}
+use Rattle.step.specs.declared.Step.the-variants.{Command, Front, Z, C, Inhibit, LookAtMe, Scan, Repeat, Stop, Put, PutLent}
 use Rattle.step.specs.declared.Reading.{Reading}
 use Rattle.step.specs.declared.Reading.the-variants.{Good, Bad}
 use Rattle.step.specs.declared.Verdict.{Verdict}
@@ -16,8 +16,8 @@ use Rattle.step.specs.declared.Verdict.the-variants.{Fine, Refuse}
 use Rattle.step.specs.Verdict.{isFine, stepVerdict, verdictOf}
 use Rattle.step.specs.Touches.{reach, reachOf, touchesOf}
 use Rattle.step.specs.Reached.{Reached, TouchesExact}
-use Rattle.step.specs.Reached.Reached.{by-command, by-front, by-repeat, by-stop, by-scan, by-z, by-c, by-i, by-look}
-use Rattle.step.proofs.Fine.{within-bounds, command-fine, front-fine, scan-fields, repeat-fine, stop-fine}
+use Rattle.step.specs.Reached.Reached.{by-command, by-front, by-repeat, by-stop, by-scan, by-put, by-put-lent, by-z, by-c, by-i, by-look}
+use Rattle.step.proofs.Fine.{within-bounds, command-fine, front-fine, scan-fields, repeat-fine, stop-fine, put-fields, put-lent-fields}
 
 -- what the test finds is reached
 pub reach-only : (s : Step) (k : ℕ) → 1 ≤ k → k ≤ 23 → reach s k ≡ true → Reached s k
@@ -30,6 +30,8 @@ reach-only LookAtMe k lo hi e = by-look lo hi
 reach-only (Scan n a f to limit) k lo hi e = let h = within-bounds n k to e in by-scan (h .0) (h .1)
 reach-only (Repeat n a f limit tries) k lo hi e = subst (Reached (Repeat n a f limit tries)) (eqb-true n k e) by-repeat
 reach-only (Stop n a f limit) k lo hi e = subst (Reached (Stop n a f limit)) (eqb-true n k e) by-stop
+reach-only (Put n a to limit w) k lo hi e = let h = within-bounds n k to e in by-put (h .0) (h .1)
+reach-only (PutLent n a to limit) k lo hi e = let h = within-bounds n k to e in by-put-lent (h .0) (h .1)
 
 -- and what is reached is found
 pub reach-all : {s : Step} {k : ℕ} → Reached s k → reach s k ≡ true
@@ -38,6 +40,8 @@ reach-all (by-front {n = n}) = eq-eqb n n refl
 reach-all (by-repeat {n = n}) = eq-eqb n n refl
 reach-all (by-stop {n = n}) = eq-eqb n n refl
 reach-all (by-scan {n = n} {to = to} {k = k} lo hi) = rw (le-leb n k lo, le-leb k to hi)
+reach-all (by-put {n = n} {to = to} {k = k} lo hi) = rw (le-leb n k lo, le-leb k to hi)
+reach-all (by-put-lent {n = n} {to = to} {k = k} lo hi) = rw (le-leb n k lo, le-leb k to hi)
 reach-all (by-z lo hi) = refl
 reach-all (by-c lo hi) = refl
 reach-all (by-i lo hi) = refl
@@ -54,6 +58,8 @@ reaches-one LookAtMe b e = (1, omega arith, omega arith, by-look {k = 1} (omega 
 reaches-one (Scan n a f to limit) b e = let h = scan-fields n a f to limit (length b) e in (n, h .0, h .1, by-scan {n = n} {k = n} (omega arith) (h .4))
 reaches-one (Repeat n a f limit tries) b e = let h = repeat-fine n a f limit tries (length b) e in (n, h .0, h .1, by-repeat)
 reaches-one (Stop n a f limit) b e = let h = stop-fine n a f limit (length b) e in (n, h .0, h .1, by-stop)
+reaches-one (Put n a to limit w) b e = let h = put-fields n a to limit w e in (n, h .0, h .1, by-put {n = n} {k = n} (omega arith) (h .3))
+reaches-one (PutLent n a to limit) b e = let h = put-lent-fields n a to limit b e in (n, h .0, h .1, by-put-lent {n = n} {k = n} (omega arith) (h .3))
 
 is-fine : (v : Verdict) → isFine v ≡ true → v ≡ Fine
 is-fine Fine e = refl

@@ -4,12 +4,12 @@ use mathlib.Core.Bool.{Bool, true, false, _&&_}
 use mathlib.Core.List.{List}
 use lib.Dec.{eqb}
 use Rattle.step.specs.declared.Step.{Step}
-use Rattle.step.specs.declared.Step.the-variants.{Command, Front, Z, C, Inhibit, LookAtMe, Scan, Repeat, Stop}
+use Rattle.step.specs.declared.Step.the-variants.{Command, Front, Z, C, Inhibit, LookAtMe, Scan, Repeat, Stop, Put, PutLent}
 use Rattle.step.specs.declared.Reading.{Reading}
 use Rattle.step.specs.declared.Reading.the-variants.{Good, Bad}
 use Rattle.step.specs.Verdict.{within, isFine, stepVerdict, verdictOf}
 
--- the stations k of a step that is not refused: N; in a scan N to `to`; in Z, C, I and the Look-at-Me reading all
+-- the stations k of a step that is not refused: N; in a scan or a put N to `to`; in Z, C, I and the Look-at-Me reading all
 abbrev pub reach : Step → ℕ → Bool
 reach (Command n a f w) k = eqb n k
 reach (Front n a v) k = eqb n k
@@ -20,6 +20,8 @@ reach LookAtMe k = true
 reach (Scan n a f to limit) k = within n k to
 reach (Repeat n a f limit tries) k = eqb n k
 reach (Stop n a f limit) k = eqb n k
+reach (Put n a to limit w) k = within n k to
+reach (PutLent n a to limit) k = within n k to
 
 -- the same of a reading: one that is no step reaches none
 abbrev pub reachOf : Reading → ℕ → Bool

@@ -1,14 +1,14 @@
--- When a step is refused (RULES 6.2 to 6.8, 6.13 to 6.18): each row of the table of refusals is said once, as a test with what follows it.
--- The verdict on a step is then the list of its fields from left to right, the buffer last.
+-- When a step is refused (RULES 6.2 to 6.8, 6.13 to 6.18, 6.21, 6.22): each row of the table of refusals is said once, as a test with what follows it.
+-- The verdict on a step is then the list of its fields from left to right, then the buffer: its length, and in a put of lent words the words.
 use Prim.Native.Nat.{ℕ}
 use mathlib.Core.Bool.{Bool, true, false, _&&_, _||_}
-use mathlib.Core.List.{List}
-use lib.ListN.{length}
+use mathlib.Core.List.{List, [], _∷_}
+use lib.ListN.{length, take}
 use lib.Dec.{leb, eqb}
 use Rattle.step.specs.declared.Refusal.{Refusal}
 use Rattle.step.specs.declared.Refusal.the-variants.{NoSuchStation, NoSuchSubaddress, NoSuchFunction, OverwideWord, CrossedRange, BadLength, ShortBuffer}
 use Rattle.step.specs.declared.Step.{Step}
-use Rattle.step.specs.declared.Step.the-variants.{Command, Front, Z, C, Inhibit, LookAtMe, Scan, Repeat, Stop}
+use Rattle.step.specs.declared.Step.the-variants.{Command, Front, Z, C, Inhibit, LookAtMe, Scan, Repeat, Stop, Put, PutLent}
 use Rattle.step.specs.declared.Reading.{Reading}
 use Rattle.step.specs.declared.Reading.the-variants.{Good, Bad}
 use Rattle.step.specs.declared.Verdict.{Verdict}
@@ -51,6 +51,15 @@ transferThen f next = unless (transfer f) NoSuchFunction next
 -- 5, overwide word: w or v above 16,777,215
 abbrev pub wordThen : ℕ → Verdict → Verdict
 wordThen w next = unless (leb w 16777215) OverwideWord next
+
+-- no word is above 16,777,215
+abbrev pub areNarrow : List ℕ → Bool
+areNarrow [] = true
+areNarrow (w ∷ ws) = leb w 16777215 && areNarrow ws
+
+-- 5, overwide word: an offered word above 16,777,215
+abbrev pub offeredThen : List ℕ → Verdict → Verdict
+offeredThen offered next = unless (areNarrow offered) OverwideWord next
 
 -- 5, overwide word: for I, v above 1
 abbrev pub inhibitThen : ℕ → Verdict → Verdict
@@ -99,6 +108,15 @@ unfoldable pub stopVerdict : ℕ → ℕ → ℕ → ℕ → ℕ → Verdict
 stopVerdict n a f limit lent =
     stationThen n (subaddressThen a (transferThen f (limitThen limit (lentThen limit lent Fine))))
 
+-- op=put n= a= to= limit= w=
+unfoldable pub putVerdict : ℕ → ℕ → ℕ → ℕ → ℕ → Verdict
+putVerdict n a to limit w = stationThen n (subaddressThen a (rangeThen n to (limitThen limit (wordThen w Fine))))
+
+-- a put of lent words, of which the first `limit` are offered: the one step with something after 8
+unfoldable pub putLentVerdict : ℕ → ℕ → ℕ → ℕ → List ℕ → Verdict
+putLentVerdict n a to limit buffer =
+    stationThen n (subaddressThen a (rangeThen n to (limitThen limit (lentThen limit (length buffer) (offeredThen (take limit buffer) Fine)))))
+
 -- the verdict on a step that is lent this buffer; nothing is wrong with Z, C and the Look-at-Me reading
 abbrev pub stepVerdict : Step → List ℕ → Verdict
 stepVerdict (Command n a f w) buffer = commandVerdict n a f w
@@ -110,6 +128,8 @@ stepVerdict LookAtMe buffer = Fine
 stepVerdict (Scan n a f to limit) buffer = scanVerdict n a f to limit (length buffer)
 stepVerdict (Repeat n a f limit tries) buffer = repeatVerdict n a f limit tries (length buffer)
 stepVerdict (Stop n a f limit) buffer = stopVerdict n a f limit (length buffer)
+stepVerdict (Put n a to limit w) buffer = putVerdict n a to limit w
+stepVerdict (PutLent n a to limit) buffer = putLentVerdict n a to limit buffer
 
 -- the verdict on a reading: one that is no step has its own refusal
 abbrev pub verdictOf : Reading → List ℕ → Verdict

@@ -6,7 +6,9 @@ use kinds::Module;
 use kinds::in_table;
 ghost use mathlib.Core.Path.{_≡_};
 ghost use Rattle.step.specs.Modules.{fitsKind, orderThen, moduleThen};
-ghost use Rattle.step.specs.Verdict.{within, transfer, unless, stationThen, subaddressThen, functionThen, transferThen, wordThen, inhibitThen, rangeThen, limitThen, triesThen, lentThen};
+ghost use Rattle.step.specs.Verdict.{within, transfer, unless, stationThen, subaddressThen, functionThen, transferThen, wordThen, inhibitThen};
+ghost use Rattle.step.specs.Verdict.{rangeThen, limitThen, triesThen, lentThen, areNarrow, offeredThen};
+ghost use lib.ListN.{take};
 
 // The edges of the fields.
 const LAST_STATION: u32 = 23;
@@ -83,6 +85,30 @@ pub fn word_then(w: u32, rest: Verdict) -> Verdict
     ensures { λ r. ⌜ r ≡ wordThen w rest ⌝ }
 {
     unless(w <= WIDEST_WORD, Refusal::OverwideWord, rest)
+}
+
+// None of the first `limit` words is above 24 bits.
+fn are_narrow(words: &[u32], limit: usize) -> bool
+    ensures { λ r. ⌜ r ≡ areNarrow (take limit (now (words .entry))) ⌝ }
+{
+    let mut k = 0;
+    while k < words.len() {
+        if k == limit {
+            return true;
+        }
+        if words[k] > WIDEST_WORD {
+            return false;
+        }
+        k += 1;
+    }
+    true
+}
+
+pub fn offered_then(words: &[u32], limit: u32, rest: Verdict) -> Verdict
+    ensures { λ r. ⌜ r ≡ offeredThen (take limit (now (words .entry))) rest ⌝ }
+{
+    let narrow = are_narrow(words, limit as usize);
+    unless(narrow, Refusal::OverwideWord, rest)
 }
 
 pub fn inhibit_then(v: u32, rest: Verdict) -> Verdict

@@ -7,19 +7,21 @@ use fields::inhibit_then;
 use fields::lent_then;
 use fields::limit_then;
 use fields::module_then;
+use fields::offered_then;
 use fields::order_then;
 use fields::range_then;
 use fields::station_then;
 use fields::subaddress_then;
 use fields::transfer_then;
 use fields::tries_then;
+use fields::within;
 use fields::word_then;
 use kinds::Module;
 ghost use mathlib.Core.Path.{_≡_};
 ghost use Rattle.step.specs.Modules.{moduleVerdict};
 ghost use Rattle.step.specs.Refusals.{refusalNumber};
 ghost use Rattle.step.specs.Touches.{reach};
-ghost use Rattle.step.specs.Verdict.{commandVerdict, frontVerdict, inhibitVerdict, scanVerdict, repeatVerdict, stopVerdict, stepVerdict};
+ghost use Rattle.step.specs.Verdict.{commandVerdict, frontVerdict, inhibitVerdict, scanVerdict, repeatVerdict, stopVerdict, putVerdict, putLentVerdict, stepVerdict};
 
 // What is sent back, in the order of the numbers, from 1 on.
 pub enum Refusal {
@@ -36,7 +38,7 @@ pub enum Refusal {
     OutOfOrder,
 }
 
-// The nine kinds of step, each with the fields of its line in a run file.
+// The kinds of step, each with the fields of its line in a run file.
 pub enum Step {
     Command {
         n: u32,
@@ -73,6 +75,21 @@ pub enum Step {
         n: u32,
         a: u32,
         f: u32,
+        limit: u32,
+    },
+    // The run file's put: one word, w, for each register met.
+    Put {
+        n: u32,
+        a: u32,
+        to: u32,
+        limit: u32,
+        w: u32,
+    },
+    // A put of the first `limit` words of the lent buffer. It has no line in a run file.
+    PutLent {
+        n: u32,
+        a: u32,
+        to: u32,
         limit: u32,
     },
 }
@@ -117,7 +134,7 @@ pub fn refusal_number(q: Refusal) -> u32
     }
 }
 
-// The verdict on a step that is lent a buffer. Of the buffer only its length counts, and only in a transfer.
+// The verdict on a step that is lent a buffer. Of the buffer its length counts, in a transfer and in a put of lent words; of its words the first `limit`, in that put alone.
 pub fn judge(step: Step, buffer: &[u32]) -> Verdict
     ensures { λ r. ⌜ r ≡ stepVerdict step (now (buffer .entry)) ⌝ }
 {
@@ -137,6 +154,8 @@ pub fn judge(step: Step, buffer: &[u32]) -> Verdict
             tries,
         } => judge_repeat(n, a, f, limit, tries, buffer.len()),
         Step::Stop { n, a, f, limit } => judge_stop(n, a, f, limit, buffer.len()),
+        Step::Put { n, a, to, limit, w } => judge_put(n, a, to, limit, w),
+        Step::PutLent { n, a, to, limit } => judge_put_lent(n, a, to, limit, buffer),
     }
 }
 
@@ -151,7 +170,7 @@ pub fn reaches(step: Step, k: u32) -> bool
         Step::C => true,
         Step::Inhibit { v } => true,
         Step::LookAtMe => true,
-        Step::Scan { n, a, f, to, limit } => n <= k && k <= to,
+        Step::Scan { n, a, f, to, limit } => within(n, k, to),
         Step::Repeat {
             n,
             a,
@@ -160,6 +179,8 @@ pub fn reaches(step: Step, k: u32) -> bool
             tries,
         } => n == k,
         Step::Stop { n, a, f, limit } => n == k,
+        Step::Put { n, a, to, limit, w } => within(n, k, to),
+        Step::PutLent { n, a, to, limit } => within(n, k, to),
     }
 }
 
@@ -214,4 +235,20 @@ fn judge_stop(n: u32, a: u32, f: u32, limit: u32, lent: usize) -> Verdict
 {
     let rest = limit_then(limit, lent_then(limit, lent, Verdict::Fine));
     station_then(n, subaddress_then(a, transfer_then(f, rest)))
+}
+
+fn judge_put(n: u32, a: u32, to: u32, limit: u32, w: u32) -> Verdict
+    ensures { λ r. ⌜ r ≡ putVerdict n a to limit w ⌝ }
+{
+    let lengths = limit_then(limit, word_then(w, Verdict::Fine));
+    station_then(n, subaddress_then(a, range_then(n, to, lengths)))
+}
+
+fn judge_put_lent(n: u32, a: u32, to: u32, limit: u32, buffer: &[u32]) -> Verdict
+    ensures { λ r. ⌜ r ≡ putLentVerdict n a to limit (now (buffer .entry)) ⌝ }
+{
+    let lent = buffer.len();
+    let words = lent_then(limit, lent, offered_then(buffer, limit, Verdict::Fine));
+    let rest = range_then(n, to, limit_then(limit, words));
+    station_then(n, subaddress_then(a, rest))
 }

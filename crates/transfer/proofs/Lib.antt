@@ -12,3 +12,4 @@ pub mod Going
 pub mod Repeating
 pub mod Stopping
 pub mod WalkLaws
+pub mod Putting

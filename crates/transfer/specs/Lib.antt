@@ -3,3 +3,4 @@ pub mod Scan
 pub mod Repeat
 pub mod Stop
 pub mod Walk
+pub mod Put

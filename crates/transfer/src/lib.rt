@@ -1,10 +1,11 @@
-// Block transfers over the lent crate memory, into a lent buffer: Scan, Repeat and Stop, a module each. A cycle is one command; its word is stored
-// when Q = 1; X is not looked at. Buffer words past those stored keep their contents.
+// Block transfers over the lent crate memory, a module each. A cycle is one command; X is not looked at. Scan, Repeat and Stop read into a lent buffer: a word
+// is stored when Q = 1, and buffer words past those stored keep their contents. Put writes words that are offered, and leaves them as they are.
+pub mod put;
 pub mod repeat;
 pub mod scan;
 pub mod stop;
 
-// What a transfer answers: how it ended, how many words it stored, how many cycles it made.
+// What a transfer answers: how it ended, how many words it stored (a put: used up), how many cycles it made.
 pub struct Transfer {
     pub end: u32,
     pub words: u32,
@@ -16,3 +17,6 @@ pub const LIMIT_REACHED: u32 = 1;
 
 // End 2: the transfer is over with fewer words.
 pub const CUT_SHORT: u32 = 2;
+
+// The last subaddress of a station.
+const LAST_SUBADDRESS: u32 = 15;

@@ -6,11 +6,9 @@ ghost use Rattle.dataway.specs.Crate.{FitCrate};
 ghost use Rattle.transfer.specs.Cycle.{transferOf, bufferAfter};
 ghost use Rattle.transfer.specs.Scan.{scanOf};
 use crate::CUT_SHORT;
+use crate::LAST_SUBADDRESS;
 use crate::LIMIT_REACHED;
 use crate::Transfer;
-
-// The last subaddress of a station.
-const LAST_SUBADDRESS: u32 = 15;
 
 // The loop over stations and subaddresses is left from inside when the limit is reached.
 pub fn scan(

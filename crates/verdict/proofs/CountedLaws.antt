@@ -9,11 +9,11 @@ use native.Mathlib.Omega.{arith}
 use native.Mathlib.Decide.{decLt, ℕ-discrete}
 use borrow.Author.Tests.{eq-eqb, ne-eqb}
 use lib.Dec.{eqb}
-use lib.ListN.{length, length-replicate}
+use lib.ListN.{length}
 use Rattle.step.specs.Refusals.{refusalNumber, refusals, verdictNumber}
 use Rattle.step.specs.Touches.{reach}
 use Rattle.step.specs.Verdict.{isFine, stepVerdict, verdictOf}
-use Rattle.step.proofs.Lengths.{judged-by-length}
+use Rattle.step.proofs.Lengths.{Milder, judged-zeros}
 use Rattle.step.proofs.Numbers.{numbered, number-injective}
 use Rattle.step.proofs.ReachedLaws.{reach-all, reaches-one}
 use Rattle.step.specs.declared.Refusal.{Refusal}
@@ -25,17 +25,22 @@ use Rattle.step.specs.declared.Verdict.the-variants.{Fine, Refuse}
 use borrow.Rule.Slice.PartMut.{midOf}
 use Rattle.lists.specs.Words.{readingOf, part}
 use Rattle.lists.proofs.Parts.{part-lent}
-use Rattle.verdict.specs.Counted.{lent, countedAs, counted, touchesLent, refusalOf, see, stepAt}
+use Rattle.verdict.specs.Counted.{lent, Zeros, countedAs, counted, touchesLent, refusalOf, see, stepAt}
 use Rattle.verdict.proofs.Lawful.{Sorted, sees-station, sees-refusal}
 
-pub lent-long : length lent ≡ 512
+-- a slice of zeros is the buffer that steps are judged with
+zeros-lent : (b : List ℕ) → Zeros b → b ≡ lent
 unfolding lent
-lent-long = length-replicate {A = ℕ} 512 0
+zeros-lent b e = e
 
--- of a buffer of 512 words the verdict sees no more
-pub judged-lent : (r : Reading) (b : List ℕ) → length b ≡ 512 → verdictOf r b ≡ verdictOf r lent
-judged-lent (Good s) b e = judged-by-length s b lent (e ∙ sym lent-long)
-judged-lent (Bad q) b e = refl
+judged-lent : (s : Step) (b : List ℕ) → Zeros b → stepVerdict s b ≡ stepVerdict s lent
+judged-lent s b e = ap (stepVerdict s) (zeros-lent b e)
+
+-- and is judged best of the buffers of 512 words
+pub lent-milder : (r : Reading) (b : List ℕ) → length b ≡ 512 → Milder (verdictOf r lent) (verdictOf r b)
+unfolding lent
+lent-milder (Good s) b e = judged-zeros s b 512 e
+lent-milder (Bad q) b e = ((λ p h. h), λ h. h)
 
 -- ---- every step is refused with a number of the table or touches a station
 pub steps-sorted : Sorted touchesLent refusalOf
@@ -86,11 +91,11 @@ refused-equal (Good s) t hr hs l e = absurd (let z : refusalOf (Good s) ≡ 0 = 
 refused-equal (Bad q) (Good s) hr hs l e = absurd (let z : refusalOf (Good s) ≡ 0 = ap verdictNumber (good-fine s hs) in omega (arith, l, e, z))
 
 -- ---- a step, judged and read
-pub judged-good : (s : Step) (b : List ℕ) (v : Verdict) → length b ≡ 512 → v ≡ stepVerdict s b → v ≡ Fine → Good s ≡ counted (Good s)
-judged-good s b v l e f = sym (counted-fine (Good s) (sym (judged-lent (Good s) b l) ∙ sym e ∙ f))
+pub judged-good : (s : Step) (b : List ℕ) (v : Verdict) → Zeros b → v ≡ stepVerdict s b → v ≡ Fine → Good s ≡ counted (Good s)
+judged-good s b v l e f = sym (counted-fine (Good s) (sym (judged-lent s b l) ∙ sym e ∙ f))
 
-pub judged-bad : (s : Step) (b : List ℕ) (v : Verdict) (q : Refusal) → length b ≡ 512 → v ≡ stepVerdict s b → v ≡ Refuse q → Bad q ≡ counted (Good s)
-judged-bad s b v q l e f = sym (counted-refused (Good s) q (sym (judged-lent (Good s) b l) ∙ sym e ∙ f))
+pub judged-bad : (s : Step) (b : List ℕ) (v : Verdict) (q : Refusal) → Zeros b → v ≡ stepVerdict s b → v ≡ Refuse q → Bad q ≡ counted (Good s)
+judged-bad s b v q l e f = sym (counted-refused (Good s) q (sym (judged-lent s b l) ∙ sym e ∙ f))
 
 pub bad-counts : (q : Refusal) → Bad q ≡ counted (Bad q)
 bad-counts q = sym (counted-refused (Bad q) q refl)
@@ -141,10 +146,10 @@ see-unreached s k t l e f =
     never true = refl
     never false = refl
 
-pub see-judged : (s : Step) (k : ℕ) (b : List ℕ) (t : Bool) (v w : Verdict) → k ≤ 23 → length b ≡ 512 → t ≡ reach s k → t ≡ true → v ≡ stepVerdict s b → v ≡ w
+pub see-judged : (s : Step) (k : ℕ) (b : List ℕ) (t : Bool) (v w : Verdict) → k ≤ 23 → Zeros b → t ≡ reach s k → t ≡ true → v ≡ stepVerdict s b → v ≡ w
     → isFine w ≡ see k (counted (Good s))
 see-judged s k b t v w l n e f g h =
-    sym (see-counted s k w l (sym (judged-lent (Good s) b n) ∙ sym g ∙ h) ∙ ap (λ (b : Bool). isFine w && b) (sym e ∙ f) ∙ alone (isFine w))
+    sym (see-counted s k w l (sym (judged-lent s b n) ∙ sym g ∙ h) ∙ ap (λ (b : Bool). isFine w && b) (sym e ∙ f) ∙ alone (isFine w))
   where
     alone : (b : Bool) → b && true ≡ b
     alone true = refl

@@ -2,7 +2,7 @@
 -- to the same (`step-counted`), so the theorem about two whole lists speaks of what the steps count as.
 -- Assumes nothing.
 use mathlib.Core.Path.{_≡_, refl, sym, ap, ap₂, _∙_}
-use mathlib.Core.Bool.{cond, _&&_}
+use mathlib.Core.Bool.{true, cond, _&&_, and-eq-true-iff}
 use mathlib.Core.Logic.{_⊎_, inl, inr}
 use mathlib.Core.List.{List, [], _∷_, _++_}
 use Prim.Native.Nat.{ℕ, zero, suc, _*_, _≤_, _<_}
@@ -30,7 +30,7 @@ use Rattle.verdict.specs.Watches.{Watch}
 use Rattle.verdict.specs.Counted.{lent, counted, touchesLent, refusalOf, count, stepAt, firsts, steps, past, seen}
 use Rattle.verdict.specs.Compared.{Lawful, LentAlike, Promise}
 use Rattle.verdict.proofs.Lawful.{Uniform, suffices, exact}
-use Rattle.verdict.proofs.CountedLaws.{judged-lent, counted-fine, counted-refused, counted-again, refused-equal, steps-sorted}
+use Rattle.verdict.proofs.CountedLaws.{lent-milder, counted-fine, counted-refused, counted-again, refused-equal, steps-sorted}
 
 -- ---- a step and what it counts as
 done-counted : (m : List ℕ) (r : Reading) (b : List ℕ) → length b ≡ 512 → doneOf m (order (counted r) b) ≡ doneOf m (order r b)
@@ -39,7 +39,7 @@ done-counted m r b l = go (verdictOf r lent) refl
   where
     go : (v : Verdict) → verdictOf r lent ≡ v → readingDone m (counted r) b ≡ readingDone m r b
     go Fine e = ap (λ (t : Reading). readingDone m t b) (counted-fine r e)
-    go (Refuse q) e = ap (λ (t : Reading). readingDone m t b) (counted-refused r q e) ∙ sym (refused-reading m r b q (judged-lent r b l ∙ e))
+    go (Refuse q) e = ap (λ (t : Reading). readingDone m t b) (counted-refused r q e) ∙ sym (refused-reading m r b q (lent-milder r b l .0 q e))
 
 step-counted : (m : List ℕ) (r : Reading) (b : List ℕ) → length b ≡ 512 → stepOf m (order (counted r) b) ≡ stepOf m (order r b)
 unfolding stepOf
@@ -106,11 +106,14 @@ module _ (us ws p : List ℕ) (r : Lawful us ws p) (b1 b2 : List ℕ) (h : LentA
       sym (firsts-at (stepAt ws) past (count ws) k l) ∙ step-at touchesLent past (steps us) (steps ws) p r k (omega (arith, long))
       ∙ firsts-at (stepAt us) past (count us) (getD p k 0) (place k l)
 
-  touched : (i n : ℕ) → i < count ws → touchesLent (getD (steps ws) i past) n ≡ touches (getD ys i beyond) n
-  touched i n l =
+  -- what a step touches with the words handed in it touches with good ones
+  touched : (i n : ℕ) → i < count ws → touches (getD ys i beyond) n ≡ true → touchesLent (getD (steps ws) i past) n ≡ true
+  touched i n l t =
+      let s = stepAt ws i in
+      let b = part 512 b2 i in
+      let u = and-eq-true-iff (isFine (verdictOf s b)) (reachOf s n) .0 (sym (ap (λ (o : Order). touches o n) (firsts-at (countedAt ws b2) beyond (count ws) i l)) ∙ t) in
       ap (λ (t : Reading). touchesLent t n) (firsts-at (stepAt ws) past (count ws) i l)
-      ∙ ap (λ (v : Verdict). isFine v && reachOf (stepAt ws i) n) (sym (judged-lent (stepAt ws i) (part 512 b2 i) (part-long 512 b2 i (omega (arith, h .1)))))
-      ∙ sym (ap (λ (o : Order). touches o n) (firsts-at (countedAt ws b2) beyond (count ws) i l))
+      ∙ and-eq-true-iff (isFine (verdictOf s lent)) (reachOf s n) .1 (lent-milder s b (part-long 512 b2 i (omega (arith, h .1))) .1 (u .0), u .1)
 
   rearranged : Rearranged touches beyond xs ys p
   rearranged = record {
@@ -125,7 +128,7 @@ module _ (us ws p : List ℕ) (r : Lawful us ws p) (b1 b2 : List ℕ) (h : LentA
     each = λ i l. r .each i (omega (arith, l, firsts-length (countedAt us b1) (count us), firsts-length (stepAt us) (count us)));
     once = r .once;
     order = λ i j l b c.
-        r .order i j l b (c .0, c .1, c .2, touched i (c .0) (omega (arith, long, l, b)) ∙ c .3, touched j (c .0) (omega (arith, long, b)) ∙ c .4);
+        r .order i j l b (c .0, c .1, c .2, touched i (c .0) (omega (arith, long, l, b)) (c .3), touched j (c .0) (omega (arith, long, b)) (c .4));
   }
 
   ends-alike : (m : List ℕ) → FitCrate m → Alike leaves gives m (ordersOf us b1 (count us)) (ordersOf ws b2 (count ws)) p

@@ -2,7 +2,7 @@
 -- rearrangement of the steps themselves is one of what they count as, so where the comparison says Parted there is none.
 -- Assumes nothing.
 use mathlib.Core.Path.{_≡_, refl, sym, ap, _∙_}
-use mathlib.Core.Bool.{true, false≢true, _&&_}
+use mathlib.Core.Bool.{true, false≢true, and-eq-true-iff}
 use mathlib.Core.List.{List, _++_}
 use Prim.Native.Nat.{ℕ, _*_, _≤_, _<_}
 use native.Mathlib.Omega.{arith}
@@ -10,9 +10,11 @@ use lib.ListN.{length, getD, drop, length-map}
 use lib.Seq.{ext-getD}
 use Rattle.regroup.specs.Lists.{outs, arranged, Alike}
 use Rattle.regroup.proofs.Whole.{length-outs, as-long, step-at, getD-map-in}
-use Rattle.step.specs.Verdict.{isFine, verdictOf}
+use Rattle.step.specs.Verdict.{isFine, areNarrow, verdictOf}
+use Rattle.step.proofs.Lengths.{narrow-take, narrow-drop, judged-narrow}
 use Rattle.step.specs.Touches.{reachOf, touchesOf}
 use Rattle.step.specs.declared.Reading.{Reading}
+use Rattle.step.specs.declared.Reading.the-variants.{Good, Bad}
 use Rattle.step.specs.declared.Verdict.{Verdict}
 use Rattle.step.specs.declared.Verdict.the-variants.{Fine, Refuse}
 use Rattle.controller.specs.Steps.{Order, Out, leaves, gives, touches}
@@ -25,10 +27,10 @@ use Rattle.rehearsal.specs.Pairs.{RearrangedWords, AlikeWords}
 use Rattle.rehearsal.proofs.PairLaws.{Went, list-went}
 use Rattle.verdict.specs.Counted.{lent, counted, touchesLent, count, stepAt, steps, past}
 use Rattle.verdict.specs.Compared.{Lawful, LentAlike, Promise, Compared}
-use Rattle.verdict.specs.Runs.{SameRuns, ComparedRuns, EachLent}
+use Rattle.verdict.specs.Runs.{SameRuns, GoodWords, ComparedRuns, EachLent}
 use Rattle.verdict.specs.declared.Comparison.{Comparison}
 use Rattle.verdict.specs.declared.Comparison.the-variants.{Same, Parted}
-use Rattle.verdict.proofs.CountedLaws.{judged-lent, counted-fine, counted-refused}
+use Rattle.verdict.proofs.CountedLaws.{counted-fine, counted-refused}
 use Rattle.verdict.proofs.Promises.{firsts-length, firsts-at}
 
 -- ---- Same: two lists that end alike, run as words
@@ -97,14 +99,17 @@ same-runs us ws q = (
 
 -- ---- Parted: a rearrangement of the steps themselves is one of what they count as
 -- what a step counts as touches no more than the step
-counted-touches : (r : Reading) (b : List ℕ) (n : ℕ) → length b ≡ 512 → touchesLent (counted r) n ≡ true → touchesOf r b n ≡ true
+counted-touches : (r : Reading) (b : List ℕ) (n : ℕ) → (isFine (verdictOf r lent) ≡ true → isFine (verdictOf r b) ≡ true)
+    → touchesLent (counted r) n ≡ true → touchesOf r b n ≡ true
 counted-touches r b n l h = go (verdictOf r lent) refl
   where
     go : (v : Verdict) → verdictOf r lent ≡ v → touchesOf r b n ≡ true
-    go Fine e = ap (λ (v : Verdict). isFine v && reachOf r n) (judged-lent r b l) ∙ ap (λ (t : Reading). touchesOf t lent n) (sym (counted-fine r e)) ∙ h
+    go Fine e =
+        let u = and-eq-true-iff (isFine (verdictOf r lent)) (reachOf r n) .0 (ap (λ (t : Reading). touchesOf t lent n) (sym (counted-fine r e)) ∙ h) in
+        and-eq-true-iff (isFine (verdictOf r b)) (reachOf r n) .1 (l (u .0), u .1)
     go (Refuse q) e = absurd (false≢true (ap (λ (t : Reading). touchesOf t lent n) (sym (counted-refused r q e)) ∙ h))
 
-module _ (us ws b1 b2 p : List ℕ) (l2 : 512 * count ws ≤ length b2) (raw : RearrangedWords (ordersOf us b1 (count us)) (ordersOf ws b2 (count ws)) p) where
+module _ (us ws b1 b2 p : List ℕ) (good : GoodWords ws b2) (raw : RearrangedWords (ordersOf us b1 (count us)) (ordersOf ws b2 (count ws)) p) where
   long-us : length (ordersOf us b1 (count us)) ≡ count us
   long-us = orders-length us b1 (count us)
 
@@ -127,7 +132,7 @@ module _ (us ws b1 b2 p : List ℕ) (l2 : 512 * count ws ≤ length b2) (raw : R
   touch-at : (k n : ℕ) → k < count ws → touchesLent (getD (steps ws) k past) n ≡ true → touches (getD (ordersOf ws b2 (count ws)) k beyond) n ≡ true
   touch-at k n h e =
       ap (λ (o : Order). touches o n) (order-at ws b2 (count ws) k h)
-      ∙ counted-touches (readingOf (part 6 ws k)) (part 512 b2 k) n (part-long 512 b2 k (omega arith)) (ap (λ (t : Reading). touchesLent t n) (sym (seen-at k h)) ∙ e)
+      ∙ counted-touches (readingOf (part 6 ws k)) (part 512 b2 k) n (good k h) (ap (λ (t : Reading). touchesLent t n) (sym (seen-at k h)) ∙ e)
 
   pub rearranged-lawful : Lawful us ws p
   rearranged-lawful = record {
@@ -147,10 +152,20 @@ module _ (us ws b1 b2 p : List ℕ) (l2 : 512 * count ws ≤ length b2) (raw : R
         raw .order j k l h (c .0, c .1, c .2, touch-at j (c .0) f (c .3), touch-at k (c .0) g (c .4));
   }
 
+-- words of 24 bits are good
+pub narrow-good : (ws b : List ℕ) → 512 * count ws ≤ length b → areNarrow b ≡ true → GoodWords ws b
+unfolding lent
+narrow-good ws b l n k h f = go (readingOf (part 6 ws k)) f
+  where
+    go : (r : Reading) → isFine (verdictOf r lent) ≡ true → isFine (verdictOf r (part 512 b k)) ≡ true
+    go (Good s) f =
+        ap isFine (judged-narrow s (part 512 b k) 512 (part-long 512 b k (omega (arith, l, h))) (narrow-take 512 (drop (512 * k) b) (narrow-drop (512 * k) b n))) ∙ f
+    go (Bad q) f = f
+
 -- ---- COMPARED, THEN RUN
 pub compared-runs : (us ws : List ℕ) (c : Comparison) → Compared us ws c → ComparedRuns us ws c
 compared-runs us ws Same h = same-runs us ws (h .1)
-compared-runs us ws (Parted k i j) h = λ b1 b2 p l1 l2 raw. h .3 p (rearranged-lawful us ws b1 b2 p l2 raw)
+compared-runs us ws (Parted k i j) h = λ b1 b2 p good raw. h .3 p (rearranged-lawful us ws b1 b2 p good raw)
 
 -- The same in the form of the contracts: `Compared` is what `compare` ensures, the two equations are what `run_list` and `run_pair` ensure. So a caller that
 -- compares two lists and then runs both, on equal crates and with the same words w in each step's buffer, cites this law with the calls' `ensures`.

@@ -1,4 +1,5 @@
 -- A list of steps lent as words, six words a step, each step with a buffer of 512 words: what each step counts as where two lists are compared.
+use mathlib.Core.Path.{_≡_}
 use mathlib.Core.Bool.{Bool, true, false}
 use mathlib.Core.List.{List, [], _∷_, _++_}
 use Prim.Native.Nat.{ℕ, zero, suc, _/_}
@@ -14,9 +15,14 @@ use Rattle.step.specs.declared.Verdict.the-variants.{Fine, Refuse}
 use Rattle.lists.specs.Words.{readingOf, part}
 use Rattle.verdict.specs.Watches.{only, sees}
 
--- a buffer of 512 words; the verdict on a step sees only how many they are
+-- A buffer of 512 words of 0. Of those as long it is judged best (`judged-zeros` of `step`): what is refused with it is refused with any, with the same
+-- number. So a put of lent words counts as one whose words are good.
 unfoldable pub lent : List ℕ
 lent = replicate 512 0
+
+-- the same of a slice that is lent
+abbrev pub Zeros : List ℕ → Type 0
+Zeros b = b ≡ replicate 512 0
 
 -- a step with its verdict
 abbrev pub countedAs : Verdict → Reading → Reading

@@ -1,13 +1,13 @@
 // Is the second list of steps a lawful rearrangement of the first, and if not, where do they part? The lists are lent as words, six words a step.
 // A list is looked at watch by watch: watch k from 1 to 23 is station k and sees the steps that touch it, and watch 23 + r sees the steps that are
-// refused with r. The open calls come last; what stands before them is lent a buffer of 512 words, as a list's steps are.
+// refused with r. The open calls come last; what stands before them is lent a buffer of 512 zeros, with which a step is judged best.
 ghost use mathlib.Core.Path.{_≡_};
 ghost use mathlib.Core.List.{[], _∷_};
 ghost use Prim.Native.Nat.{_≤_, _<_};
 ghost use lib.ListN.{length};
 ghost use Rattle.step.specs.declared.Reading.{Reading};
 ghost use Rattle.verdict.specs.Watches.{only, Watch};
-ghost use Rattle.verdict.specs.Counted.{counted, see, count, stepAt, isRefused, refusedIn};
+ghost use Rattle.verdict.specs.Counted.{Zeros, counted, see, count, stepAt, isRefused, refusedIn};
 ghost use Rattle.verdict.specs.Tells.{Tells};
 ghost use Rattle.verdict.specs.Compared.{Next, Watched, Stands, Compared};
 use lists::BUFFER_WORDS;
@@ -56,7 +56,7 @@ fn sees(reading: Reading, k: u32) -> bool
 
 // What a step counts as: itself, or its refusal.
 fn judged(step: Step, lent: &[u32]) -> Reading
-    requires { ⌜ length (now lent) ≡ 512 ⌝ }
+    requires { ⌜ Zeros (now lent) ⌝ }
     ensures { λ r. ⌜ r ≡ counted (Reading.Good step) ⌝ }
 {
     let verdict = step::judge(step, lent);
@@ -68,7 +68,7 @@ fn judged(step: Step, lent: &[u32]) -> Reading
 
 // What step k of a list counts as.
 fn step_at(words: &[u32], k: usize, lent: &[u32]) -> Reading
-    requires { ⌜ (k < count (now words)) × (length (now lent) ≡ 512) ⌝ }
+    requires { ⌜ (k < count (now words)) × Zeros (now lent) ⌝ }
     ensures { λ r. ⌜ r ≡ stepAt (now (words .entry)) k ⌝ }
 {
     let at = STEP_WORDS * k;
@@ -82,7 +82,7 @@ fn step_at(words: &[u32], k: usize, lent: &[u32]) -> Reading
 
 // Watch k, a station, sees what the step counts as. Few steps reach a station, so the fields are judged last.
 fn touches(step: Step, k: u32, lent: &[u32]) -> bool
-    requires { ⌜ (length (now lent) ≡ 512) × (k ≤ 23) ⌝ }
+    requires { ⌜ Zeros (now lent) × (k ≤ 23) ⌝ }
     ensures { λ r. ⌜ r ≡ see k (counted (Reading.Good step)) ⌝ }
 {
     let reached = step::reaches(step, k);
@@ -98,7 +98,7 @@ fn touches(step: Step, k: u32, lent: &[u32]) -> bool
 
 // Watch k, a station, sees step i of a list.
 fn touches_at(words: &[u32], i: usize, k: u32, lent: &[u32]) -> bool
-    requires { ⌜ (i < count (now words)) × (length (now lent) ≡ 512) × (k ≤ 23) ⌝ }
+    requires { ⌜ (i < count (now words)) × Zeros (now lent) × (k ≤ 23) ⌝ }
     ensures { λ r. ⌜ r ≡ see k (stepAt (now (words .entry)) i) ⌝ }
 {
     let at = STEP_WORDS * i;
@@ -112,7 +112,7 @@ fn touches_at(words: &[u32], i: usize, k: u32, lent: &[u32]) -> bool
 
 // Watch k sees step i of a list.
 fn sees_at(words: &[u32], i: usize, k: u32, lent: &[u32]) -> bool
-    requires { ⌜ (i < count (now words)) × (length (now lent) ≡ 512) ⌝ }
+    requires { ⌜ (i < count (now words)) × Zeros (now lent) ⌝ }
     ensures { λ r. ⌜ r ≡ see k (stepAt (now (words .entry)) i) ⌝ }
 {
     if k <= LAST_STATION {
@@ -165,7 +165,7 @@ fn same_reading(x: Reading, y: Reading) -> bool
 
 // Step i of the first list and step j of the second are equal steps. Most that are equal have equal words, and need not be judged.
 fn equal(first: &[u32], i: usize, second: &[u32], j: usize, lent: &[u32]) -> bool
-    requires { ⌜ (i < count (now first)) × (j < count (now second)) × (length (now lent) ≡ 512) ⌝ }
+    requires { ⌜ (i < count (now first)) × (j < count (now second)) × Zeros (now lent) ⌝ }
     ensures { λ r. ⌜ Tells r (stepAt (now (first .entry)) i ≡ stepAt (now (second .entry)) j) ⌝ }
 {
     let at = STEP_WORDS * i;
@@ -183,7 +183,7 @@ fn equal(first: &[u32], i: usize, second: &[u32], j: usize, lent: &[u32]) -> boo
 
 // The first place from `from` on whose step watch k sees, or the number of steps.
 fn next(words: &[u32], from: usize, k: u32, lent: &[u32]) -> usize
-    requires { ⌜ (from ≤ count (now words)) × (length (now lent) ≡ 512) ⌝ }
+    requires { ⌜ (from ≤ count (now words)) × Zeros (now lent) ⌝ }
     ensures { λ r. ⌜ Next (now (words .entry)) k from r ⌝ }
 {
     let end = words.len() / STEP_WORDS;
@@ -200,7 +200,7 @@ fn next(words: &[u32], from: usize, k: u32, lent: &[u32]) -> usize
 
 // What watch k sees of the two lists, with a cursor in each.
 fn walk(first: &[u32], second: &[u32], k: u32, lent: &[u32]) -> Comparison
-    requires { ⌜ Watch k × (length (now lent) ≡ 512) ⌝ }
+    requires { ⌜ Watch k × Zeros (now lent) ⌝ }
     ensures { λ r. ⌜ Watched (now (first .entry)) (now (second .entry)) k r ⌝ }
 {
     let m = first.len() / STEP_WORDS;
@@ -242,7 +242,7 @@ fn walk(first: &[u32], second: &[u32], k: u32, lent: &[u32]) -> Comparison
 
 // The watches one after the other, up to the first that parts.
 fn walk_all(first: &[u32], second: &[u32], lent: &[u32]) -> Comparison
-    requires { ⌜ length (now lent) ≡ 512 ⌝ }
+    requires { ⌜ Zeros (now lent) ⌝ }
     ensures { λ r. ⌜ Compared (now (first .entry)) (now (second .entry)) r ⌝ }
 {
     let mut k: u32 = 1;
@@ -269,7 +269,7 @@ fn walk_all(first: &[u32], second: &[u32], lent: &[u32]) -> Comparison
 
 // The first place from `from` on where the second list has step i of the first, or the number of its steps.
 fn seek(first: &[u32], i: usize, second: &[u32], from: usize, lent: &[u32]) -> usize
-    requires { ⌜ (i < count (now first)) × (from ≤ count (now second)) × (length (now lent) ≡ 512) ⌝ }
+    requires { ⌜ (i < count (now first)) × (from ≤ count (now second)) × Zeros (now lent) ⌝ }
     ensures { λ r. ⌜ Stands (now (first .entry)) i (now (second .entry)) from r ⌝ }
 {
     let end = second.len() / STEP_WORDS;
@@ -286,7 +286,7 @@ fn seek(first: &[u32], i: usize, second: &[u32], from: usize, lent: &[u32]) -> u
 
 // 1 where step i of a list is refused, else 0.
 fn refused_at(words: &[u32], i: usize, lent: &[u32]) -> usize
-    requires { ⌜ (i < count (now words)) × (length (now lent) ≡ 512) ⌝ }
+    requires { ⌜ (i < count (now words)) × Zeros (now lent) ⌝ }
     ensures { λ r. ⌜ r ≡ length (only isRefused (stepAt (now (words .entry)) i ∷ [])) ⌝ }
 {
     let reading = step_at(words, i, lent);

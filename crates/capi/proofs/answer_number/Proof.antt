@@ -26,6 +26,9 @@ enum-told-4 c = search needs
 enum-told-5 : tie.Need-enum-told-5
 enum-told-5 c = search needs
 
+enum-told-6 : tie.Need-enum-told-6
+enum-told-6 c = search needs
+
 returns : tie.Need-returns
 returns c = (c .refusal-number .ensures) ∙ ap answerNumber (sym (c .before .before .answer .given .1))
 
@@ -44,6 +47,9 @@ returns-5 c = ap answerNumber (sym (c .enum-told4 .given .1))
 returns-6 : tie.Need-returns-6
 returns-6 c = ap answerNumber (sym (c .enum-told5 .given .1))
 
+returns-7 : tie.Need-returns-7
+returns-7 c = ap answerNumber (sym (c .enum-told6 .given .1))
+
 pub answer-number-spec : {M : Type 1} → statement M
 answer-number-spec =
     tie.close
@@ -55,9 +61,11 @@ answer-number-spec =
     enum-told-3
     enum-told-4
     enum-told-5
+    enum-told-6
     returns
     returns-2
     returns-3
     returns-4
     returns-5
-    returns-6)
+    returns-6
+    returns-7)

@@ -1,7 +1,7 @@
 -- `act` meets its contract: a step that is not refused has the fields that each call asks for (`..-good`), and each arm comes to the definition's (`..-acts`).
 use borrow.Author.Needs.{needs}
-use Rattle.controller.proofs.Arms.{command-good, front-good, inhibit-good, scan-good, repeat-good, stop-good, command-acts}
-use Rattle.controller.proofs.Arms.{front-acts, z-acts, c-acts, inhibit-acts, lam-acts, scan-acts, repeat-acts, stop-acts}
+use Rattle.controller.proofs.Arms.{command-good, front-good, inhibit-good, scan-good, repeat-good, stop-good, put-good, put-lent-good, command-acts}
+use Rattle.controller.proofs.Arms.{front-acts, z-acts, c-acts, inhibit-acts, lam-acts, scan-acts, repeat-acts, stop-acts, put-acts, put-lent-acts}
 use Rattle.controller.proofs.act.Statement.{statement}
 use Rattle.controller.proofs.act.Tie as tie
 
@@ -79,6 +79,24 @@ stop-requires c κs = (
   stop-good _ _ (c .before .before .before .before .before .before .before .pre .1) _ _ _ _ (c .before .before .before .step6 .given .1),
 )
 
+enum-known-step-7 : tie.Need-enum-known-step-7
+enum-known-step-7 c = search needs
+
+put-word-requires : tie.Need-put-word-requires
+put-word-requires c κs = (
+  (c .before .before .before .before .before .before .pre .0),
+  put-good _ _ (c .before .before .before .before .before .before .pre .1) _ _ _ _ _ (c .before .before .step7 .given .1),
+)
+
+enum-known-step-8 : tie.Need-enum-known-step-8
+enum-known-step-8 c = search needs
+
+put-lent-requires : tie.Need-put-lent-requires
+put-lent-requires c κs = (
+  (c .before .before .before .before .before .before .before .pre .0),
+  put-lent-good _ _ (c .before .before .before .before .before .before .before .pre .1) _ _ _ _ (c .before .before .before .step8 .given .1),
+)
+
 same-length : tie.Need-same-length
 same-length c = search needs
 
@@ -150,6 +168,23 @@ returns-9 c = let stop = (c .before .before .before .before .stop) in
     stop-acts _ _ _ _ _ _ _ _ _ _ (c .before .before .before .before .before .before .before .before .step6 .given .1) (stop .ensures .0) (stop .ensures .1 .0)
     (stop .ensures .1 .1)
 
+same-length-13 : tie.Need-same-length-13
+same-length-13 c = search needs
+
+returns-10 : tie.Need-returns-10
+returns-10 c = put-acts _ _ _ _ _ _ _ _ _ _ (c .before .before .before .before .before .step7 .given .1)
+    (c .before .before .put-word .ensures .0) (c .before .before .put-word .ensures .1)
+
+same-length-14 : tie.Need-same-length-14
+same-length-14 c = search needs
+
+same-length-15 : tie.Need-same-length-15
+same-length-15 c = search needs
+
+returns-11 : tie.Need-returns-11
+returns-11 c = put-lent-acts _ _ _ _ _ _ _ _ _ (c .before .before .before .before .before .before .step8 .given .1)
+    (c .before .before .put-lent .ensures .0) (c .before .before .put-lent .ensures .1)
+
 pub act-spec : {M : Type 1} → statement M
 act-spec =
     tie.close
@@ -172,6 +207,10 @@ act-spec =
     repeat-requires
     enum-known-step-6
     stop-requires
+    enum-known-step-7
+    put-word-requires
+    enum-known-step-8
+    put-lent-requires
     same-length
     returns
     same-length-2
@@ -192,4 +231,9 @@ act-spec =
     returns-8
     same-length-11
     same-length-12
-    returns-9)
+    returns-9
+    same-length-13
+    returns-10
+    same-length-14
+    same-length-15
+    returns-11)

@@ -60,8 +60,16 @@ unfolding readingOf kindsOf
 returns-9 c = rw (c .match .keys9)
 
 returns-10 : tie.Need-returns-10
+unfolding readingOf kindsOf
+returns-10 c = rw (c .match .keys10)
+
+returns-11 : tie.Need-returns-11
+unfolding readingOf kindsOf
+returns-11 c = rw (c .match .keys11)
+
+returns-12 : tie.Need-returns-12
 unfolding kindsOf
-returns-10 c = reading-else _ (c .match .rest)
+returns-12 c = reading-else _ (c .match .rest)
 
 pub read-step-spec : {M : Type 1} → statement M
 read-step-spec =
@@ -82,4 +90,6 @@ read-step-spec =
     returns-7
     returns-8
     returns-9
-    returns-10)
+    returns-10
+    returns-11
+    returns-12)

@@ -46,6 +46,12 @@ enum-known-answer-5 c = search needs
 put-four-requires-6 : tie.Need-put-four-requires-6
 put-four-requires-6 c κs = search needs
 
+enum-known-answer-6 : tie.Need-enum-known-answer-6
+enum-known-answer-6 c = search needs
+
+put-four-requires-7 : tie.Need-put-four-requires-7
+put-four-requires-7 c κs = search needs
+
 same-length : tie.Need-same-length
 same-length c = search needs
 
@@ -84,6 +90,12 @@ same-length-6 c = search needs
 returns-6 : tie.Need-returns-6
 returns-6 c = (c .before .before .put-four6 .ensures) ∙ ap answerWords (sym (c .before .before .before .before .before .answer5 .given .1))
 
+same-length-7 : tie.Need-same-length-7
+same-length-7 c = search needs
+
+returns-7 : tie.Need-returns-7
+returns-7 c = (c .before .before .put-four7 .ensures) ∙ ap answerWords (sym (c .before .before .before .before .before .answer6 .given .1))
+
 pub write-answer-spec : {M : Type 1} → statement M
 write-answer-spec =
     tie.close
@@ -101,6 +113,8 @@ write-answer-spec =
     put-four-requires-5
     enum-known-answer-5
     put-four-requires-6
+    enum-known-answer-6
+    put-four-requires-7
     same-length
     returns
     same-length-2
@@ -112,4 +126,6 @@ write-answer-spec =
     same-length-5
     returns-5
     same-length-6
-    returns-6)
+    returns-6
+    same-length-7
+    returns-7)

@@ -59,6 +59,18 @@ enum-known-step-6 c = search needs
 put-six-requires-9 : tie.Need-put-six-requires-9
 put-six-requires-9 c κs = search needs
 
+enum-known-step-7 : tie.Need-enum-known-step-7
+enum-known-step-7 c = search needs
+
+put-six-requires-10 : tie.Need-put-six-requires-10
+put-six-requires-10 c κs = search needs
+
+enum-known-step-8 : tie.Need-enum-known-step-8
+enum-known-step-8 c = search needs
+
+put-six-requires-11 : tie.Need-put-six-requires-11
+put-six-requires-11 c κs = search needs
+
 same-length : tie.Need-same-length
 same-length c = search needs
 
@@ -122,6 +134,20 @@ returns-9 : tie.Need-returns-9
 unfolding stepWords
 returns-9 c = (c .before .before .put-six9 .ensures) ∙ ap stepWords (sym (c .before .before .before .before .before .step6 .given .1))
 
+same-length-10 : tie.Need-same-length-10
+same-length-10 c = search needs
+
+returns-10 : tie.Need-returns-10
+unfolding stepWords
+returns-10 c = (c .before .before .put-six10 .ensures) ∙ ap stepWords (sym (c .before .before .before .before .before .step7 .given .1))
+
+same-length-11 : tie.Need-same-length-11
+same-length-11 c = search needs
+
+returns-11 : tie.Need-returns-11
+unfolding stepWords
+returns-11 c = (c .before .before .put-six11 .ensures) ∙ ap stepWords (sym (c .before .before .before .before .before .step8 .given .1))
+
 pub write-step-spec : {M : Type 1} → statement M
 write-step-spec =
     tie.close
@@ -144,6 +170,10 @@ write-step-spec =
     put-six-requires-8
     enum-known-step-6
     put-six-requires-9
+    enum-known-step-7
+    put-six-requires-10
+    enum-known-step-8
+    put-six-requires-11
     same-length
     returns
     same-length-2
@@ -161,4 +191,8 @@ write-step-spec =
     same-length-8
     returns-8
     same-length-9
-    returns-9)
+    returns-9
+    same-length-10
+    returns-10
+    same-length-11
+    returns-11)

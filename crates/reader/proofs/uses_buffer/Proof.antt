@@ -36,6 +36,12 @@ enum-known-step-5 c = search needs
 enum-known-step-6 : tie.Need-enum-known-step-6
 enum-known-step-6 c = search needs
 
+enum-known-step-7 : tie.Need-enum-known-step-7
+enum-known-step-7 c = search needs
+
+enum-known-step-8 : tie.Need-enum-known-step-8
+enum-known-step-8 c = search needs
+
 returns : tie.Need-returns
 returns c = search needs
 
@@ -66,6 +72,12 @@ returns-9 c = rw ((c .before .before .before .before .reading .given .1), (c .be
 returns-10 : tie.Need-returns-10
 returns-10 c = rw ((c .before .before .before .before .reading .given .1), (c .before .step6 .given .1))
 
+returns-11 : tie.Need-returns-11
+returns-11 c = rw ((c .before .before .before .before .reading .given .1), (c .before .step7 .given .1))
+
+returns-12 : tie.Need-returns-12
+returns-12 c = rw ((c .before .before .before .before .reading .given .1), (c .before .step8 .given .1))
+
 pub uses-buffer-spec : {M : Type 1} → statement M
 uses-buffer-spec =
     tie.close
@@ -81,6 +93,8 @@ uses-buffer-spec =
     enum-known-step-4
     enum-known-step-5
     enum-known-step-6
+    enum-known-step-7
+    enum-known-step-8
     returns
     returns-2
     returns-3
@@ -90,4 +104,6 @@ uses-buffer-spec =
     returns-7
     returns-8
     returns-9
-    returns-10)
+    returns-10
+    returns-11
+    returns-12)

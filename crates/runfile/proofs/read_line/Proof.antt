@@ -8,7 +8,7 @@ use Rattle.runfile.specs.Lines.{Reads}
 use Rattle.runfile.specs.Read.{readLine}
 use Rattle.step.specs.declared.Reading.{Reading}
 use Rattle.runfile.proofs.Found.{either}
-use Rattle.runfile.proofs.Letters.{letter-n, letter-f, letter-z, letter-c, letter-i, letter-l, letter-s, letter-r, no-letter, other-letter}
+use Rattle.runfile.proofs.Letters.{letter-n, letter-f, letter-z, letter-c, letter-i, letter-l, letter-s, letter-r, letter-p, no-letter, other-letter}
 use Rattle.runfile.proofs.RunLines.{reads-of}
 use Rattle.runfile.proofs.read_line.Statement.{statement}
 use Rattle.runfile.proofs.read_line.Tie as tie
@@ -62,6 +62,9 @@ or-else-requires c κs = search needs
 read-repeat-requires : tie.Need-read-repeat-requires
 read-repeat-requires c κs = search needs
 
+read-put-requires : tie.Need-read-put-requires
+read-put-requires c κs = search needs
+
 returns-2 : tie.Need-returns-2
 returns-2 c = let entry = (c .before .before .before .before .before .args) in
     both (entry .line .now) _ (c .read-naf .ensures ∙ letter-n (entry .line .now) (c .before .match .keys1))
@@ -96,10 +99,14 @@ returns-9 c = let entry = (c .before .before .before .before .before .args) in
     both (entry .line .now) _ (c .read-repeat .ensures ∙ letter-r (entry .line .now) (c .before .match .keys8))
 
 returns-10 : tie.Need-returns-10
-returns-10 c = let entry = (c .before .before .before .before .args) in
+returns-10 c = let entry = (c .before .before .before .before .before .args) in
+    both (entry .line .now) _ (c .read-put .ensures ∙ letter-p (entry .line .now) (c .before .match .keys9))
+
+returns-11 : tie.Need-returns-11
+returns-11 c = let entry = (c .before .before .before .before .args) in
     let m = c .match .rest in
-    both (entry .line .now) _ (other-letter (entry .line .now) (m .0 .0 .0 .0 .0 .0 .0 .1) (m .0 .0 .0 .0 .0 .0 .1) (m .0 .0 .0 .0 .0 .1) (m .0 .0 .0 .0 .1)
-    (m .0 .0 .0 .1) (m .0 .0 .1) (m .0 .1) (m .1))
+    both (entry .line .now) _ (other-letter (entry .line .now) (m .0 .0 .0 .0 .0 .0 .0 .0 .1) (m .0 .0 .0 .0 .0 .0 .0 .1) (m .0 .0 .0 .0 .0 .0 .1)
+    (m .0 .0 .0 .0 .0 .1) (m .0 .0 .0 .0 .1) (m .0 .0 .0 .1) (m .0 .0 .1) (m .0 .1) (m .1))
 
 pub read-line-spec : {M : Type 1} → statement M
 read-line-spec =
@@ -120,6 +127,7 @@ read-line-spec =
     read-stop-requires
     or-else-requires
     read-repeat-requires
+    read-put-requires
     returns-2
     returns-3
     returns-4
@@ -128,4 +136,5 @@ read-line-spec =
     returns-7
     returns-8
     returns-9
-    returns-10)
+    returns-10
+    returns-11)

@@ -28,6 +28,9 @@ least-requires c κs = search needs
 enum-told-5 : tie.Need-enum-told-5
 enum-told-5 c = search needs
 
+enum-told-6 : tie.Need-enum-told-6
+enum-told-6 c = search needs
+
 returns : tie.Need-returns
 returns c = search needs
 
@@ -46,6 +49,9 @@ returns-5 c = stored-transfer _ _ _ _ (c .before .before .before .answer .given 
 returns-6 : tie.Need-returns-6
 returns-6 c = search needs
 
+returns-7 : tie.Need-returns-7
+returns-7 c = search needs
+
 pub count-stored-spec : {M : Type 1} → statement M
 count-stored-spec =
     tie.close
@@ -58,9 +64,11 @@ count-stored-spec =
     cast-least
     least-requires
     enum-told-5
+    enum-told-6
     returns
     returns-2
     returns-3
     returns-4
     returns-5
-    returns-6)
+    returns-6
+    returns-7)

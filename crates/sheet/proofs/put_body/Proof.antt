@@ -49,6 +49,12 @@ put-transfer-requires c κs = search needs
 enum-known-answer-5 : tie.Need-enum-known-answer-5
 enum-known-answer-5 c = search needs
 
+put-transfer-requires-2 : tie.Need-put-transfer-requires-2
+put-transfer-requires-2 c κs = search needs
+
+enum-known-answer-6 : tie.Need-enum-known-answer-6
+enum-known-answer-6 c = search needs
+
 slice-aggregate-put-field-2 : tie.Need-slice-aggregate-put-field-2
 slice-aggregate-put-field-2 c = search needs
 
@@ -95,7 +101,14 @@ same-length-6 c = search needs
 
 returns-6 : tie.Need-returns-6
 unfolding body
-returns-6 c = of-answer (c .before .before .before .before .before .before .before .answer5 .given .1)
+returns-6 c = of-answer (c .before .before .before .before .before .answer5 .given .1) (c .before .before .put-transfer2 .ensures)
+
+same-length-7 : tie.Need-same-length-7
+same-length-7 c = search needs
+
+returns-7 : tie.Need-returns-7
+unfolding body
+returns-7 c = of-answer (c .before .before .before .before .before .before .before .answer6 .given .1)
     (of-text (ap (λ (n : ℕ). field " refused=" n) (c .before .before .before .refusal-number .ensures)) (c .before .before .put-field2 .ensures))
 
 pub put-body-spec : {M : Type 1} → statement M
@@ -115,6 +128,8 @@ put-body-spec =
     enum-known-answer-4
     put-transfer-requires
     enum-known-answer-5
+    put-transfer-requires-2
+    enum-known-answer-6
     slice-aggregate-put-field-2
     refusal-number-requires
     put-field-requires-2
@@ -129,4 +144,6 @@ put-body-spec =
     same-length-5
     returns-5
     same-length-6
-    returns-6)
+    returns-6
+    same-length-7
+    returns-7)

@@ -1,5 +1,5 @@
 -- `step::judge` meets its contract: each arm of the `match` says which step was given, and the call in it gives that
--- step's verdict. The nine arms stand in turn in the last lines, and then what each of them returns.
+-- step's verdict. The eleven arms stand in turn in the last lines, and then what each of them returns.
 -- Assumes nothing.
 use borrow.Author.Needs.{needs}
 use Rattle.step.proofs.judge.Statement.{statement}
@@ -23,6 +23,12 @@ returns-8 c = rw (c .before .before .step5 .given .1) (c .judge-repeat .ensures)
 returns-9 : tie.Need-returns-9
 returns-9 c = rw (c .before .before .step6 .given .1) (c .judge-stop .ensures)
 
+returns-10 : tie.Need-returns-10
+returns-10 c = rw (c .before .before .step7 .given .1) (c .judge-put .ensures)
+
+returns-11 : tie.Need-returns-11
+returns-11 c = rw (c .before .before .step8 .given .1) (c .judge-put-lent .ensures)
+
 pub judge-spec : {M : Type 1} → statement M
 judge-spec =
     tie.close
@@ -36,4 +42,6 @@ judge-spec =
     (λ c. search needs) (λ c κs. search needs)
     (λ c. search needs) (λ c κs. search needs)
     (λ c. search needs) (λ c κs. search needs)
-    returns returns-2 (λ c. search needs) (λ c. search needs) returns-5 (λ c. search needs) returns-7 returns-8 returns-9)
+    (λ c. search needs) (λ c κs. search needs)
+    (λ c. search needs) (λ c κs. search needs)
+    returns returns-2 (λ c. search needs) (λ c. search needs) returns-5 (λ c. search needs) returns-7 returns-8 returns-9 returns-10 returns-11)

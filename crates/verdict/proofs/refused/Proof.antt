@@ -1,7 +1,6 @@
 -- `refused` meets its contract. The loop's invariant: so many of the first i steps are refused.
 -- Assumes nothing.
-use lib.ListN.{length-replicate}
-use mathlib.Core.Path.{_≡_, sym, ap, _∙_}
+use mathlib.Core.Path.{_≡_, refl, sym, ap, _∙_}
 use Prim.Native.Nat.{ℕ, _+_, _-_, _≤_}
 use native.Mathlib.Omega.{arith}
 use borrow.Author.Needs.{needs}
@@ -23,7 +22,7 @@ slice-aggregate-refused-at : tie.Need-slice-aggregate-refused-at Inv-loop μ-loo
 slice-aggregate-refused-at c = search needs
 
 refused-at-requires : tie.Need-refused-at-requires Inv-loop μ-loop
-refused-at-requires c κs = (omega arith, length-replicate {A = ℕ} 512 0)
+refused-at-requires c κs = (omega arith, refl)
 
 add-many : tie.Need-add-many Inv-loop μ-loop
 add-many c = let loop = (c .before .before .before .loop) in
