@@ -359,6 +359,17 @@ static void put_transfer(uint32_t end, const uint32_t *words, uint32_t stored, u
     }
 }
 
+// From N, A of a scan or a put to the next: A + 1 after Q = 1, and A0 of N + 1 after Q = 0 or A15.
+static inline void next_place(uint32_t *n, uint32_t *a, bool q)
+{
+    if (q && *a < 15)
+        ++*a;
+    else {
+        ++*n;
+        *a = 0;
+    }
+}
+
 static uint32_t do_scan(uint32_t n, uint32_t a, uint32_t f, uint32_t to, uint32_t limit)
 {
     uint32_t bad = bad_transfer(n, a, f), words[MOST_WORDS], stored = 0, cycles = 0;
@@ -372,12 +383,7 @@ static uint32_t do_scan(uint32_t n, uint32_t a, uint32_t f, uint32_t to, uint32_
         bool q = read_word(&crate[n], a, f, &words[stored]);
         cycles++;
         stored += q;
-        if (q && a < 15)
-            a++;
-        else {
-            n++;
-            a = 0;
-        }
+        next_place(&n, &a, q);
     }
     put_transfer(stored == limit ? 1 : 2, words, stored, cycles);
     return 0;
@@ -424,12 +430,7 @@ static uint32_t do_put(uint32_t n, uint32_t a, uint32_t to, uint32_t limit, uint
         bool q = write_word(&crate[n], a, w);
         cycles++;
         used += q;
-        if (q && a < 15)
-            a++;
-        else {
-            n++;
-            a = 0;
-        }
+        next_place(&n, &a, q);
     }
     put_end(used == limit ? 1 : 2, used, cycles);
     return 0;
