@@ -43,6 +43,9 @@
  * A PUT is a write scan: the path of a scan, with F16. Each cycle offers the first word not used up, and Q = 1 uses it up. End 1: all `limit` words are
  * used up. End 2: past `to`. A put of lent words reads the buffer; both puts leave it as it is.
  *
+ * A SCAN OR A PUT makes at most words + (to - n + 1) cycles. A scan with f = 0 from a = 0 that ends 2 has stored all that its stations hold for F0: registers
+ * 0 to r-1 of each, stations ascending; of a buffer memory its oldest word, if it has one.
+ *
  * AN ANSWER: four words.
  *   0 refused               the refusal number, 0, 0
  *   1 a command             X, Q, R

@@ -3,7 +3,7 @@
 -- Assumes nothing.
 use Prim.Native.Nat.{ℕ, _+_, _-_, _≤_, _<_, _^_}
 use mathlib.Core.Path.{_≡_, refl, sym, ap, _∙_}
-use mathlib.Core.Bool.{Bool, true, false, cond}
+use mathlib.Core.Bool.{Bool, true, false, true≢false, cond}
 use mathlib.Core.List.{List, _++_}
 use native.Mathlib.Omega.{arith}
 use lib.ListN.{length, drop}
@@ -18,7 +18,6 @@ use Rattle.transfer.specs.declared.Transfer.{Transfer}
 use Rattle.transfer.proofs.WalkLaws.{scan-walks, finished-walk}
 use Rattle.step.specs.Verdict.{isFine, stepVerdict}
 use Rattle.step.proofs.Fine.{command-fine, scan-fields}
-use Rattle.step.specs.declared.Refusal.{Refusal}
 use Rattle.step.specs.declared.Refusal.the-variants.{UnfitCrate}
 use Rattle.step.specs.declared.Step.{Step}
 use Rattle.step.specs.declared.Step.the-variants.{Command, Front, Z, C, Inhibit, LookAtMe, Scan, Repeat, Stop, Put, PutLent}
@@ -27,6 +26,7 @@ use Rattle.step.specs.declared.Verdict.{Verdict}
 use Rattle.step.specs.declared.Verdict.the-variants.{Fine, Refuse}
 use Rattle.controller.specs.Steps.{order, Performed, refused, actOf, judgedOf, doneOf, stepOf, leaves, gives}
 use Rattle.controller.specs.Finished.{Scanned, FinishedScan, RepliesAreWords}
+use Rattle.controller.proofs.Sentences.{isRefused}
 use Rattle.controller.specs.declared.Answer.{Answer}
 use Rattle.controller.specs.declared.Answer.the-variants.{Replied, Taken, Done, Looked, Transferred, Wrote, Refused}
 
@@ -37,46 +37,50 @@ pub record Did (m : List ℕ) (s : Step) (b : List ℕ) : Type 0 where
   pub did : stepOf m (order (Good s) b) ≡ actOf m s b
 
 module _ (m : List ℕ) (s : Step) (b : List ℕ) where
-  abbrev NoRefusal : Performed → Type 0
-  NoRefusal p = (q : Refusal) → p .out .answer ≡ Refused q → ⊥
-
-  pub step-did : NoRefusal (stepOf m (order (Good s) b)) → Did m s b
+  pub step-did : isRefused (gives m (order (Good s) b) .answer) ≡ false → Did m s b
   unfolding stepOf doneOf
   step-did h = go (isFitCrate m) (stepVerdict s b) refl refl h
     where
-      go : (t : Bool) (v : Verdict) → isFitCrate m ≡ t → stepVerdict s b ≡ v → NoRefusal (cond t (judgedOf v m s b) (refused UnfitCrate m b)) → Did m s b
+      go : (t : Bool) (v : Verdict) → isFitCrate m ≡ t → stepVerdict s b ≡ v
+          → isRefused (cond t (judgedOf v m s b) (refused UnfitCrate m b) .out .answer) ≡ false → Did m s b
       go true Fine f e n = record {
         fit = crate-facts m f;
         fine = ap isFine e;
         did = ap (λ (t : Bool). cond t (judgedOf (stepVerdict s b) m s b) (refused UnfitCrate m b)) f ∙ ap (λ (v : Verdict). judgedOf v m s b) e;
       }
-      go true (Refuse q) f e n = absurd (n q refl)
-      go false v f e n = absurd (n UnfitCrate refl)
+      go true (Refuse q) f e n = absurd (true≢false n)
+      go false v f e n = absurd (true≢false n)
 
--- ---- a scan
-abbrev transferIn : Answer → Transfer
+  -- and its answer is that of what it did
+  pub did-answer : Did m s b → {r : Answer} → gives m (order (Good s) b) .answer ≡ r → actOf m s b .out .answer ≡ r
+  did-answer d h = sym (ap (λ (p : Performed). p .out .answer) (d .did)) ∙ h
+
+-- ---- end, words and cycles
+-- those of an answer that has them
+abbrev pub transferIn : Answer → Transfer
 transferIn (Transferred p) = p
+transferIn (Wrote p) = p
 transferIn (Replied p) = record { end = 0; words = 0; cycles = 0 }
 transferIn (Taken v) = record { end = 0; words = 0; cycles = 0 }
 transferIn Done = record { end = 0; words = 0; cycles = 0 }
 transferIn (Looked p) = record { end = 0; words = 0; cycles = 0 }
-transferIn (Wrote p) = record { end = 0; words = 0; cycles = 0 }
 transferIn (Refused q) = record { end = 0; words = 0; cycles = 0 }
 
+-- ---- a scan
 -- equal ends and memories
 walk-same : {f to limit : ℕ} {m : List ℕ} {n a k : ℕ} {cs : List Made} {e d : ℕ} {m′ m″ : List ℕ} → e ≡ d → m′ ≡ m″ → Walk f to limit m n a k cs e m′
     → Walk f to limit m n a k cs d m″
 walk-same p q w = rw (sym p, sym q) w
 
 module _ (m : List ℕ) (n a f to limit : ℕ) (b : List ℕ) (t : Transfer) (h : gives m (order (Good (Scan n a f to limit)) b) .answer ≡ Transferred t) where
-  scan-did : Did m (Scan n a f to limit) b
-  scan-did = step-did m (Scan n a f to limit) b (λ q e. let w : Transferred t ≡ Refused q = sym h ∙ e in let z : _≡_ {A = ℕ} 0 1 = cc in omega arith)
+  pub scan-did : Did m (Scan n a f to limit) b
+  scan-did = step-did m (Scan n a f to limit) b (ap isRefused h)
 
-  fields : (1 ≤ n) × (a ≤ 15) × (n ≤ to)
-  fields = let p = scan-fields n a f to limit (length b) (scan-did .fine) in (p .0, p .2, p .4)
+  pub fields : (1 ≤ n) × (a ≤ 15) × (n ≤ to) × (to ≤ 23) × (limit ≤ 512) × (limit ≤ length b)
+  fields = let p = scan-fields n a f to limit (length b) (scan-did .fine) in (p .0, p .2, p .4, p .5, p .7, p .8)
 
-  told : transferOf (scanOf m n a f to limit) ≡ t
-  told = ap transferIn (sym (ap (λ (p : Performed). p .out .answer) (scan-did .did)) ∙ h)
+  pub told : transferOf (scanOf m n a f to limit) ≡ t
+  told = ap transferIn (did-answer m (Scan n a f to limit) b scan-did h)
 
   made-by : (cs : List Made) × Walk f to limit m n a 0 cs (scanOf m n a f to limit .end) (scanOf m n a f to limit .memory)
       × (scanOf m n a f to limit .cycles ≡ length cs) × (scanOf m n a f to limit .words ≡ wordsOf cs)
@@ -144,5 +148,5 @@ act-words m (PutLent n a to limit) b p g v e = absurd (let z : _≡_ {A = ℕ} 0
 
 pub replies-words : RepliesAreWords
 replies-words m s b p e =
-    let d = step-did m s b (λ q h. let w : Replied p ≡ Refused q = sym e ∙ h in let z : _≡_ {A = ℕ} 0 1 = cc in omega arith) in
-    rw (ap (λ (x : Performed). x .memory) (d .did)) (act-words m s b p (d .fit) (d .fine) (sym (ap (λ (x : Performed). x .out .answer) (d .did)) ∙ e))
+    let d = step-did m s b (ap isRefused e) in
+    rw (ap (λ (x : Performed). x .memory) (d .did)) (act-words m s b p (d .fit) (d .fine) (did-answer m s b d e))

@@ -5,3 +5,5 @@ pub mod Samples
 pub mod Bench
 pub mod PlacingLaws
 pub mod FinishedLaws
+pub mod ScansLaws
+pub mod ScanSamples

@@ -35,7 +35,7 @@ use Rattle.controller.specs.declared.Answer.the-variants.{Replied, Taken
 pub step-fit : (m : List ℕ) (o : Order) → FitCrate m → FitCrate (leaves m o)
 step-fit m o f = law .local o .keeps m f
 
-abbrev isRefused : Answer → Bool
+abbrev pub isRefused : Answer → Bool
 isRefused (Replied p) = false
 isRefused (Taken v) = false
 isRefused Done = false

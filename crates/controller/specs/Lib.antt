@@ -4,3 +4,4 @@ pub mod Regrouping
 pub mod Bench
 pub mod Placing
 pub mod Finished
+pub mod Scans

@@ -13,3 +13,4 @@ pub mod Repeating
 pub mod Stopping
 pub mod WalkLaws
 pub mod Putting
+pub mod HeldLaws

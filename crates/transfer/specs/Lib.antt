@@ -4,3 +4,4 @@ pub mod Repeat
 pub mod Stop
 pub mod Walk
 pub mod Put
+pub mod Held

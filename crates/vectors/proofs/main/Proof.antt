@@ -8,7 +8,7 @@ abbrev Inv-loop : tie.InvT-loop
 Inv-loop k₀ k = Unit {0}
 
 abbrev μ-loop : tie.MeasureT-loop
-μ-loop k₀ k = 69 - k
+μ-loop k₀ k = 100 - k
 
 loop-holds : tie.Need-loop-holds Inv-loop μ-loop
 loop-holds c = search needs
