@@ -53,12 +53,12 @@ module _ (m : List ℕ) (n a f to limit : ℕ) (b : List ℕ) (p : Transfer) (e 
   counted : length (scanOf m n a f to limit .words) ≡ p .words
   counted = ap (λ (x : Transfer). x .words) (told m n a f to limit b p e)
 
-  -- end 2: fewer than `limit`
-  fewer : p .end ≡ 2 → p .words < limit
-  fewer two = go (scan-ends (reads f) to limit m n a (fields m n a f to limit b p e .1))
+  -- fewer than `limit`, unless it ended 1
+  fewer : (p .end ≡ 1 → ⊥) → p .words < limit
+  fewer other = go (scan-ends (reads f) to limit m n a (fields m n a f to limit b p e .1))
     where
       go : Ends limit (scanOf m n a f to limit) → p .words < limit
-      go (reached q l) = absurd (omega (arith, two, q, ap (λ (x : Transfer). x .end) (told m n a f to limit b p e)))
+      go (reached q l) = absurd (other (sym (ap (λ (x : Transfer). x .end) (told m n a f to limit b p e)) ∙ q))
       go (short q l) = omega (arith, l, counted)
 
   -- they stand first in the buffer
@@ -89,5 +89,5 @@ all-of k limit ys xs l e = e ∙ take-all limit xs (omega (arith, l, ap length e
 pub scan-read : ScanRead
 scan-read m n to limit b p e two =
     let s = scan-read-to m n 0 to limit b p e in
-    let over : p .end ≡ 2 = omega (arith, two) in
-    (all-of (p .words) limit (gives m (scan n 0 0 to limit b) .buffer) (heldFrom m (to - n + 1) n 0) (fewer m n 0 0 to limit b p e over) (s .0), s .1)
+    let l = fewer m n 0 0 to limit b p e (λ one. omega (arith, two, one)) in
+    (all-of (p .words) limit (gives m (scan n 0 0 to limit b) .buffer) (heldFrom m (to - n + 1) n 0) l (s .0), s .1)
