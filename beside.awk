@@ -76,7 +76,7 @@ function requests(l, count,    n, stations) {
 }
 
 function ended(end, line) {
-    return end == 1 ? "limit reached" : end2[substr(line, 1, index(line, " ") - 1)]
+    return end == 1 ? "limit reached" : end == 3 ? "nothing answers (X = 0)" : end2[substr(line, 1, index(line, " ") - 1)]
 }
 
 function counted(count, thing) {

@@ -1,10 +1,10 @@
 // Calls the library through its C functions on random arrays, and compares each call with the
 // crate of reference.rs: the number returned, and every word of the memory, answers and buffers.
 //   library SEED COUNT
-// makes COUNT calls, the same ones for the same seed, after some puts of lent words that were worked out by hand.
-// Ends with 0 when none differs, with 1 at the first that does, after printing it; a put by hand that differs is a
+// makes COUNT calls, the same ones for the same seed, after some puts of lent words, Repeats and Stops that were worked out by hand.
+// Ends with 0 when none differs, with 1 at the first that does, after printing it; a step by hand that differs is a
 // panic; 2 means that the two numbers were not given.
-// What the calls have to do is written from document 01, request L1 of document 02, include/pagontxu.h and docs/DECISIONS.md.
+// What the calls have to do is written from document 01, requests L1 and L3 of document 02, include/pagontxu.h and docs/DECISIONS.md.
 
 #[allow(dead_code)]
 #[path = "reference.rs"]
@@ -823,32 +823,66 @@ fn puts_by_hand() -> [HandPut; 11] {
     ]
 }
 
-// Asserts that library and reference both do these puts as the hand has them, and leave all else as it was.
-fn try_puts_by_hand() {
-    let lent = |words: &[u32]| Lent::new(words, || 0);
-    for (words, limit, answer, registers) in puts_by_hand() {
-        let mut memory = vec![0; MEMORY];
-        let block = 2 * BLOCK;
-        memory[block..block + 2].copy_from_slice(&[2, 4]);
-        memory[block + 16..block + 20].fill(9);
-        let mut call = Call::Step(lent(&[11, 2, 0, 2, limit, u32::MAX]));
-        let call_before = call.clone();
-        let mut reference = Arrays { memory: lent(&memory), answer: lent(&[0; ANSWER]), buffer: lent(&words) };
-        let mut library = reference.clone();
-        memory[block + 16..block + 20].copy_from_slice(&registers);
-        let number = if answer[0] == 0 { answer[1] } else { 0 };
-        let shown = format!("a put of {} words, limit {limit}", words.len());
+// Repeats and Stops, each with its answer and the words that it stores, none of which changes the crate: a scaler of two registers in station 3, with 9 at
+// A1, and an empty buffer memory in station 5.
+const TRANSFERS_BY_HAND: [([u32; STEP], [u32; ANSWER], &[u32]); 8] = [
+    // X = 1, and the tries are used up
+    ([8, 3, 1, 0, 2, 1], [5, 2, 1, 1], &[9]),
+    // A at r, in the last try: 3 before 2
+    ([8, 3, 2, 0, 1, 1], [5, 3, 0, 1], &[]),
+    // an empty station
+    ([8, 4, 0, 0, 512, 4096], [5, 3, 0, 1], &[]),
+    ([9, 4, 0, 3, 2, 0], [5, 3, 0, 1], &[]),
+    // the empty buffer memory at A0 has X = 1, at A1 X = 0
+    ([8, 5, 0, 2, 1, 3], [5, 2, 0, 3], &[]),
+    ([9, 5, 0, 2, 4, 0], [5, 2, 0, 1], &[]),
+    ([9, 5, 1, 2, 4, 0], [5, 3, 0, 1], &[]),
+    // the limit comes first
+    ([9, 3, 1, 0, 1, 0], [5, 1, 1, 1], &[9]),
+];
 
-        assert_eq!(call_reference(&call, &mut reference), number, "reference, returned, {shown}");
-        assert_eq!(call_library(&mut call, &mut library), number, "library, returned, {shown}");
-        assert!(call == call_before, "library, step, {shown}");
-        for (name, after) in [("reference", reference), ("library", library)] {
-            assert!(after.answer == lent(&answer), "{name}, answer {:?}, {shown}", after.answer.words());
-            assert!(after.memory == lent(&memory), "{name}, memory, {shown}");
-            assert!(after.buffer == lent(&words), "{name}, buffer, {shown}");
-        }
+// Asserts that library and reference both do the step as the hand has it: the number returned, the answer, memory and buffer, each as it was before and as
+// it is after.
+fn try_by_hand(step: [u32; STEP], answer: [u32; ANSWER], memory: [&[u32]; 2], buffer: [&[u32]; 2]) {
+    let lent = |words: &[u32]| Lent::new(words, || 0);
+    let mut call = Call::Step(lent(&step));
+    let call_before = call.clone();
+    let mut reference = Arrays { memory: lent(memory[0]), answer: lent(&[0; ANSWER]), buffer: lent(buffer[0]) };
+    let mut library = reference.clone();
+    let number = if answer[0] == 0 { answer[1] } else { 0 };
+    let shown = format!("step {step:?}, {} words lent", buffer[0].len());
+
+    assert_eq!(call_reference(&call, &mut reference), number, "reference, returned, {shown}");
+    assert_eq!(call_library(&mut call, &mut library), number, "library, returned, {shown}");
+    assert!(call == call_before, "library, step, {shown}");
+    for (name, after) in [("reference", reference), ("library", library)] {
+        assert!(after.answer == lent(&answer), "{name}, answer {:?}, {shown}", after.answer.words());
+        assert!(after.memory == lent(memory[1]), "{name}, memory, {shown}");
+        assert!(after.buffer == lent(buffer[1]), "{name}, buffer, {shown}");
     }
-    println!("{} puts worked out by hand, 0 differ", puts_by_hand().len());
+}
+
+// All of them, each from its crate.
+fn try_all_by_hand() {
+    let station = |n: usize| n * BLOCK;
+    for (words, limit, answer, registers) in puts_by_hand() {
+        let mut before = vec![0; MEMORY];
+        before[station(2)..station(2) + 2].copy_from_slice(&[2, 4]);
+        before[station(2) + 16..station(2) + 20].fill(9);
+        let mut after = before.clone();
+        after[station(2) + 16..station(2) + 20].copy_from_slice(&registers);
+        try_by_hand([11, 2, 0, 2, limit, u32::MAX], answer, [&before, &after], [&words, &words]);
+    }
+    for (step, answer, stored) in TRANSFERS_BY_HAND {
+        let mut memory = vec![0; MEMORY];
+        memory[station(3)..station(3) + 2].copy_from_slice(&[1, 2]);
+        memory[station(3) + 17] = 9;
+        memory[station(5)..station(5) + 2].copy_from_slice(&[4, 1]);
+        let buffer = vec![77; 512];
+        let after = [stored, &buffer[stored.len()..]].concat();
+        try_by_hand(step, answer, [&memory, &memory], [&buffer, &after]);
+    }
+    println!("{} puts, {} Repeats and Stops worked out by hand, 0 differ", puts_by_hand().len(), TRANSFERS_BY_HAND.len());
 }
 
 // ---- what is printed of a difference ----
@@ -904,7 +938,7 @@ fn main() {
             std::process::exit(2);
         }
     };
-    try_puts_by_hand();
+    try_all_by_hand();
     let mut chance = Chance(seed);
     let mut memory = lent_words(&mut chance, &[]);
     let mut left = 0; // calls until a new memory is made

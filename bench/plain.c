@@ -1,4 +1,4 @@
-// The CAMAC rehearsal in plain C, written from document 01 and request L1 of document 02, read as docs/RULES.md has them.
+// The CAMAC rehearsal in plain C, written from document 01 and requests L1 and L3 of document 02, read as docs/RULES.md has them.
 // It shares no code with the proved program, so that the two can be compared, in what they print and in how fast they are.
 // Build: gcc -O3 -DSTDIO plain.c has the C library read lines and print numbers, as a C program mostly does; gcc -O3 plain.c does both by hand, to be quick.
 // It reads crate.txt and run.txt in the current folder, or the two files named, and prints the sheet.
@@ -391,27 +391,47 @@ static uint32_t do_scan(uint32_t n, uint32_t a, uint32_t f, uint32_t to, uint32_
 
 static uint32_t do_repeat(uint32_t n, uint32_t a, uint32_t f, uint32_t limit, uint32_t tries)
 {
-    uint32_t bad = bad_transfer(n, a, f), words[MOST_WORDS], stored = 0, cycles = 0;
+    uint32_t bad = bad_transfer(n, a, f), words[MOST_WORDS], stored = 0, cycles = 0, end = 1;
     if (bad)
         return bad;
     if (bad_length(limit, MOST_WORDS) || bad_length(tries, 4096))
         return BAD_LENGTH;
-    for (; stored < limit && cycles < tries; cycles++)
+    while (stored < limit) {
+        if (cycles == tries) {
+            end = 2;
+            break;
+        }
+        cycles++;
+        if (a >= crate[n].r) { // X = 0
+            end = 3;
+            break;
+        }
         stored += read_word(&crate[n], a, f, &words[stored]);
-    put_transfer(stored == limit ? 1 : 2, words, stored, cycles);
+    }
+    put_transfer(end, words, stored, cycles);
     return 0;
 }
 
 static uint32_t do_stop(uint32_t n, uint32_t a, uint32_t f, uint32_t limit)
 {
-    uint32_t bad = bad_transfer(n, a, f), words[MOST_WORDS], stored = 0, cycles = 0;
+    uint32_t bad = bad_transfer(n, a, f), words[MOST_WORDS], stored = 0, cycles = 0, end = 1;
     if (bad)
         return bad;
     if (bad_length(limit, MOST_WORDS))
         return BAD_LENGTH;
-    for (bool q = true; q && stored < limit; cycles++)
-        stored += q = read_word(&crate[n], a, f, &words[stored]);
-    put_transfer(stored == limit ? 1 : 2, words, stored, cycles);
+    while (stored < limit) {
+        cycles++;
+        if (a >= crate[n].r) { // X = 0
+            end = 3;
+            break;
+        }
+        if (!read_word(&crate[n], a, f, &words[stored])) {
+            end = 2;
+            break;
+        }
+        stored++;
+    }
+    put_transfer(end, words, stored, cycles);
     return 0;
 }
 

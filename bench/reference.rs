@@ -1,4 +1,4 @@
-// The crate, its steps and its lines in plain Rust, written from document 01 and request L1 of document 02, read as docs/RULES.md has them.
+// The crate, its steps and its lines in plain Rust, written from document 01 and requests L1 and L3 of document 02, read as docs/RULES.md has them.
 // It shares no code with the proved library, so that library.rs can compare the two call by call.
 
 use std::collections::VecDeque;
@@ -326,12 +326,12 @@ impl Crate {
     }
 
     // One cycle of a transfer: a command, whose word is stored when Q = 1.
-    fn cycle(&mut self, n: u32, a: u32, f: u32, words: &mut Vec<u32>) -> bool {
+    fn cycle(&mut self, n: u32, a: u32, f: u32, words: &mut Vec<u32>) -> Reply {
         let reply = self.command(n, a, f, 0);
         if reply.q == 1 {
             words.push(reply.r);
         }
-        reply.q == 1
+        reply
     }
 
     fn scan(&mut self, n: u32, a: u32, f: u32, to: u32, limit: u32, words: &mut Vec<u32>) -> Transfer {
@@ -344,7 +344,7 @@ impl Crate {
                 return Transfer { end: 2, cycles };
             }
             cycles += 1;
-            if self.cycle(n, a, f, words) && a < 15 {
+            if self.cycle(n, a, f, words).q == 1 && a < 15 {
                 a += 1;
             } else {
                 n += 1;
@@ -385,7 +385,9 @@ impl Crate {
                 return Transfer { end: 2, cycles };
             }
             cycles += 1;
-            self.cycle(n, a, f, words);
+            if self.cycle(n, a, f, words).x == 0 {
+                return Transfer { end: 3, cycles };
+            }
         }
     }
 
@@ -396,7 +398,11 @@ impl Crate {
                 return Transfer { end: 1, cycles };
             }
             cycles += 1;
-            if !self.cycle(n, a, f, words) {
+            let reply = self.cycle(n, a, f, words);
+            if reply.x == 0 {
+                return Transfer { end: 3, cycles };
+            }
+            if reply.q == 0 {
                 return Transfer { end: 2, cycles };
             }
         }

@@ -46,6 +46,9 @@
  * A SCAN OR A PUT makes at most words + (to - n + 1) cycles. A scan with f = 0 from a = 0 that ends 2 has stored all that its stations hold for F0: registers
  * 0 to r-1 of each, stations ascending; of a buffer memory its oldest word, if it has one.
  *
+ * A REPEAT OR A STOP ends 3 at the first cycle with X = 0, that cycle counted: nothing there answers. So it does wherever a is r or above, that is at every a
+ * of an empty station and at a = 1 to 15 of a buffer memory, and nowhere else: with 0 words and 1 cycle, and memory and buffer stay as they were.
+ *
  * AN ANSWER: four words.
  *   0 refused               the refusal number, 0, 0
  *   1 a command             X, Q, R
@@ -53,6 +56,9 @@
  *   3 Z, C or I             1, 0, 0
  *   4 Look-at-Me reading    L, count, first
  *   5 scan, Repeat or Stop  end, words, cycles; the words are in the buffer, which keeps what it held past them
+ *                           end 1  `limit` words are stored; tested before all else
+ *                           end 2  of a scan: past `to`; of a Repeat: `tries` cycles are made; of a Stop: Q = 0, that cycle counted
+ *                           end 3  of a Repeat or a Stop: X = 0, that cycle counted; where end 2 applies too, it is 3
  *   6 a put                 end, words used up, cycles
  *
  * A REFUSAL changes nothing in the memory or the buffers. Each function returns 0, or the number of its refusal:

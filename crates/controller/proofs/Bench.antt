@@ -15,10 +15,14 @@ use Rattle.transfer.specs.Cycle.{keep}
 use Rattle.transfer.specs.Scan.{scanning, scanFrom, scanCycle, scanNext}
 use Rattle.transfer.specs.Repeat.{repeatNext, repeatFrom}
 use Rattle.transfer.specs.Stop.{stopFrom, stopNext}
-use Rattle.controller.specs.Bench.{Bench}
+use Rattle.controller.specs.Bench.{Bench, BesideBench}
 
 pub bench : Bench
 unfolding clearBits signedOf blockOf withBlock sourcesOf withoutOldest bufferReadOf bufferReadAndClearOf readOf readAndClearOf readComplementOf
     selectiveClearOf addedOf testLamOf testStatusOf functionsOf commandOf countedOf storedOf kindEventsOf frontOf replyOf afterCommand withModule
     scanning scanFrom scanCycle scanNext repeatNext repeatFrom keep stopFrom stopNext
 bench = (refl, refl, refl, refl, refl, refl, refl, refl, refl, refl, refl, refl, refl, refl)
+
+pub beside-bench : BesideBench
+unfolding blockOf withBlock readOf functionsOf commandOf replyOf afterCommand withModule repeatNext repeatFrom stopFrom stopNext
+beside-bench = (refl, refl)

@@ -7,3 +7,4 @@ pub mod PlacingLaws
 pub mod FinishedLaws
 pub mod ScansLaws
 pub mod ScanSamples
+pub mod NotAcceptedLaws

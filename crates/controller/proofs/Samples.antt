@@ -8,13 +8,24 @@ use native.Mathlib.Omega.{arith}
 use borrow.Author.Tests.{eqb-true}
 use lib.ListN.{length, getD}
 use lib.Dec.{eqb}
-use Rattle.regroup.specs.Lists.{Common, Rearranged, Alike}
+use Rattle.regroup.specs.Lists.{outs, arranged, Common, Rearranged, Alike}
 use Rattle.regroup.proofs.Whole.{as-long, step-at}
-use Rattle.dataway.specs.Crate.{FitCrate}
+use Rattle.kinds.specs.Table.{inTable}
+use Rattle.blocks.specs.Blocks.{blockOf, withBlock}
+use Rattle.station.specs.Block.{sourcesOf, isUsed, headerTests, isFitHeader, isFitSpare, isFitRegister, fitTests, isFitBlock}
+use Rattle.station.specs.Group1.{readOf}
+use Rattle.station.specs.Command.{functionsOf, commandOf}
+use Rattle.dataway.specs.Crate.{FitCrate, emptyCrate, isFitRest, isFitStation, crateTests, isFitCrate}
+use Rattle.dataway.specs.Stations.{replyOf, afterCommand, withModule}
+use Rattle.dataway.proofs.CrateLaws.{crate-facts}
+use Rattle.transfer.specs.Cycle.{keep}
+use Rattle.transfer.specs.Repeat.{repeatNext, repeatFrom}
+use Rattle.transfer.specs.Stop.{stopNext, stopFrom}
 use Rattle.step.specs.Verdict.{commandVerdict, frontVerdict, scanVerdict, repeatVerdict, stopVerdict}
 use Rattle.step.specs.declared.Step.the-variants.{Command, Front, Z, Scan, Repeat, Stop}
 use Rattle.step.specs.declared.Reading.the-variants.{Good}
-use Rattle.controller.specs.Steps.{Order, order, leaves, gives, touches}
+use Rattle.controller.specs.declared.Answer.the-variants.{Replied, Transferred}
+use Rattle.controller.specs.Steps.{Order, order, Out, leaves, gives, touches, stepOf, doneOf}
 use Rattle.controller.specs.Regrouping.{beyond}
 use Rattle.controller.proofs.StepLaws.{crate-regroup}
 
@@ -172,3 +183,32 @@ turned-sample = record { second = refl; places = below; each = every; once = onc
 
 pub turned-alike : (m : List ℕ) → FitCrate m → Alike leaves gives m (command3 ∷ repeat5 ∷ stop7 ∷ []) (stop7 ∷ repeat5 ∷ command3 ∷ []) turned
 turned-alike m f = crate-regroup m f (command3 ∷ repeat5 ∷ stop7 ∷ []) (stop7 ∷ repeat5 ∷ command3 ∷ []) turned turned-sample
+
+-- ---- and where the Repeat ends 3: a scaler in station 3, one in 7, and none in 5
+abbrev pub around5 : List ℕ
+around5 = withModule (withModule emptyCrate (record { n = 3; kind = 1; r = 1 })) (record { n = 7; kind = 1; r = 1 })
+
+-- what the three steps give back
+abbrev replied : Out
+replied = record { answer = Replied (record { x = 1; q = 1; r = 0 }); buffer = [] }
+
+abbrev three : Out
+three = record { answer = Transferred (record { end = 3; words = 0; cycles = 1 }); buffer = 0 ∷ [] }
+
+abbrev reached : Out
+reached = record { answer = Transferred (record { end = 1; words = 1; cycles = 1 }); buffer = 0 ∷ [] }
+
+around5-fit : isFitCrate around5 ≡ true
+unfolding blockOf withBlock inTable sourcesOf isUsed headerTests isFitHeader isFitSpare isFitRegister fitTests isFitBlock isFitRest isFitStation crateTests
+    isFitCrate withModule
+around5-fit = refl
+
+three-sample : outs leaves gives around5 (command3 ∷ repeat5 ∷ stop7 ∷ []) ≡ replied ∷ three ∷ reached ∷ []
+unfolding blockOf withBlock inTable sourcesOf isUsed headerTests isFitHeader isFitSpare isFitRegister fitTests isFitBlock isFitRest isFitStation crateTests
+    isFitCrate withModule readOf functionsOf commandOf replyOf afterCommand keep repeatNext repeatFrom stopNext stopFrom commandVerdict repeatVerdict stopVerdict
+    stepOf doneOf
+three-sample = refl
+
+-- by demand 3 they do so in the other order too
+pub three-regrouped : outs leaves gives around5 (stop7 ∷ repeat5 ∷ command3 ∷ []) ≡ reached ∷ three ∷ replied ∷ []
+three-regrouped = turned-alike around5 (crate-facts around5 around5-fit) .1 three ∙ ap (λ (os : List Out). arranged three os turned) three-sample

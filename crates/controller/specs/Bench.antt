@@ -61,3 +61,11 @@ Bench =
     × (transferOf (repeatOf (withModule emptyCrate buffer) 1 0 2 1 3) ≡ record { end = 2; words = 0; cycles = 3 })
     -- P12 Stop F2 on a buffer of 2, limit 4: 2 words, 3 cycles, end 2
     × (transferOf (stopOf (withBlock emptyCrate 1 two) 1 0 2 4) ≡ record { end = 2; words = 2; cycles = 3 })
+
+-- beside the table: transfers whose command is not accepted (RULES 4.21)
+abbrev pub BesideBench : Type 0
+BesideBench =
+    -- Repeat F0 at an empty station, tries 3: 0 words, 1 cycle, end 3
+    (transferOf (repeatOf emptyCrate 1 0 0 1 3) ≡ record { end = 3; words = 0; cycles = 1 })
+    -- Stop F0 at A = r of a scaler: the same
+    × (transferOf (stopOf (withModule emptyCrate (record { n = 1; kind = 1; r = 2 })) 1 2 0 1) ≡ record { end = 3; words = 0; cycles = 1 })

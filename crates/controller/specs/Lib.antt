@@ -5,3 +5,4 @@ pub mod Bench
 pub mod Placing
 pub mod Finished
 pub mod Scans
+pub mod NotAccepted

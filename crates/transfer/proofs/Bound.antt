@@ -11,8 +11,8 @@ use Rattle.transfer.specs.Scan.{scanning}
 use Rattle.transfer.specs.Repeat.{repeatFrom}
 use Rattle.transfer.specs.Stop.{stopFrom}
 use Rattle.transfer.proofs.ScanInduction.{Steps, scan-induction}
-use Rattle.transfer.proofs.RepeatLaws.{repeat-full, repeat-over, repeat-more}
-use Rattle.transfer.proofs.StopLaws.{stop-full, stop-miss, stop-more}
+use Rattle.transfer.proofs.RepeatLaws.{repeat-full, repeat-over, repeat-fault, repeat-more}
+use Rattle.transfer.proofs.StopLaws.{stop-full, stop-fault, stop-miss, stop-more}
 
 at-most : {c k : ℕ} → c + 1 ≤ k → c ≤ k
 at-most l = omega arith
@@ -66,14 +66,21 @@ module _ (cycle : CycleAt) where
         ]
     repeat-counts (suc k) m ws c =
         elim (decLt (length ws) limit) [
-          | yes p ↦ rw (repeat-more cycle n a limit m ws c k p) (at-most (repeat-counts k _ _ (c + 1)))
+          | yes p ↦ elim (ℕ-discrete (cycle m n a (length ws) .reply .x) 1) [
+            | yes x ↦ rw (repeat-more cycle n a limit m ws c k p x) (at-most (repeat-counts k _ _ (c + 1)))
+            | no x ↦ rw (repeat-fault cycle n a limit m ws c k p x) (omega arith)
+          ]
           | no p ↦ rw (repeat-full cycle n a limit m ws c (suc k) (omega arith)) (omega arith)
         ]
 
     -- at least one
     pub repeat-made : (tries : ℕ) (m : List ℕ) → 1 ≤ limit → 1 ≤ tries → 1 ≤ repeatFrom tries cycle n a limit m [] 0 .cycles
     repeat-made zero m r s = absurd (omega arith)
-    repeat-made (suc k) m r s = rw (repeat-more cycle n a limit m [] 0 k (omega arith)) (repeat-counts k _ _ 1)
+    repeat-made (suc k) m r s =
+        elim (ℕ-discrete (cycle m n a 0 .reply .x) 1) [
+          | yes x ↦ rw (repeat-more cycle n a limit m [] 0 k (omega arith) x) (repeat-counts k _ _ 1)
+          | no x ↦ rw (repeat-fault cycle n a limit m [] 0 k (omega arith) x) (omega arith)
+        ]
 
   -- ---- Stop
   module _ (n a : ℕ) where
@@ -81,16 +88,22 @@ module _ (cycle : CycleAt) where
     stop-counts : (k : ℕ) (m ws : List ℕ) (c : ℕ) → c ≤ stopFrom k cycle n a m ws c .cycles
     stop-counts zero m ws c = rw (stop-full cycle n a m ws c) (omega arith)
     stop-counts (suc k) m ws c =
-        elim (ℕ-discrete (cycle m n a (length ws) .reply .q) 1) [
-          | yes q ↦ rw (stop-more cycle n a m ws c k q) (at-most (stop-counts k _ _ (c + 1)))
-          | no q ↦ rw (stop-miss cycle n a m ws c k q) (omega arith)
+        elim (ℕ-discrete (cycle m n a (length ws) .reply .x) 1) [
+          | yes x ↦ elim (ℕ-discrete (cycle m n a (length ws) .reply .q) 1) [
+            | yes q ↦ rw (stop-more cycle n a m ws c k x q) (at-most (stop-counts k _ _ (c + 1)))
+            | no q ↦ rw (stop-miss cycle n a m ws c k x q) (omega arith)
+          ]
+          | no x ↦ rw (stop-fault cycle n a m ws c k x) (omega arith)
         ]
 
     -- at least one
     pub stop-made : (limit : ℕ) (m : List ℕ) → 1 ≤ limit → 1 ≤ stopFrom limit cycle n a m [] 0 .cycles
     stop-made zero m r = absurd (omega arith)
     stop-made (suc k) m r =
-        elim (ℕ-discrete (cycle m n a 0 .reply .q) 1) [
-          | yes q ↦ rw (stop-more cycle n a m [] 0 k q) (stop-counts k _ _ 1)
-          | no q ↦ rw (stop-miss cycle n a m [] 0 k q) (omega arith)
+        elim (ℕ-discrete (cycle m n a 0 .reply .x) 1) [
+          | yes x ↦ elim (ℕ-discrete (cycle m n a 0 .reply .q) 1) [
+            | yes q ↦ rw (stop-more cycle n a m [] 0 k x q) (stop-counts k _ _ 1)
+            | no q ↦ rw (stop-miss cycle n a m [] 0 k x q) (omega arith)
+          ]
+          | no x ↦ rw (stop-fault cycle n a m [] 0 k x) (omega arith)
         ]

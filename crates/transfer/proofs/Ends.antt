@@ -1,5 +1,5 @@
--- What the end tells: end 1 where exactly `limit` words are stored, end 2 where fewer are. So a transfer never stores more than `limit` words. The
--- limit is tested before anything else, and a cycle stores one word at most.
+-- What the end tells: end 1 where exactly `limit` words are stored, end 2, and of a Repeat or a Stop also end 3, where fewer are. So a transfer never
+-- stores more than `limit` words. The limit is tested before anything else, and a cycle stores one word at most.
 -- Assumes nothing.
 use mathlib.Core.Path.{_≡_, refl}
 use mathlib.Core.List.{List, [], _∷_}
@@ -12,8 +12,8 @@ use Rattle.transfer.specs.Scan.{scanning}
 use Rattle.transfer.specs.Repeat.{repeatFrom}
 use Rattle.transfer.specs.Stop.{stopFrom}
 use Rattle.transfer.proofs.ScanInduction.{Steps, scan-induction}
-use Rattle.transfer.proofs.RepeatLaws.{keep-length, repeat-full, repeat-over, repeat-more}
-use Rattle.transfer.proofs.StopLaws.{stop-full, stop-miss, stop-more}
+use Rattle.transfer.proofs.RepeatLaws.{keep-length, repeat-full, repeat-over, repeat-fault, repeat-more}
+use Rattle.transfer.proofs.StopLaws.{stop-full, stop-fault, stop-miss, stop-more}
 
 -- end 1 with `limit` words, or end 2 with fewer
 pub data Ends (limit : ℕ) (e : Ended) : Type 0 where
@@ -24,6 +24,15 @@ pub data Ends (limit : ℕ) (e : Ended) : Type 0 where
 words-of : {limit : ℕ} {e : Ended} → Ends limit e → length (e .words) ≤ limit
 words-of (reached p q) = omega arith
 words-of (short p q) = omega arith
+
+-- of a Repeat or a Stop: the same, or end 3 with fewer
+pub data EndsHere (limit : ℕ) (e : Ended) : Type 0 where
+  ends : Ends limit e → EndsHere limit e
+  fault : e .end ≡ 3 → length (e .words) < limit → EndsHere limit e
+
+words-here : {limit : ℕ} {e : Ended} → EndsHere limit e → length (e .words) ≤ limit
+words-here (ends p) = words-of p
+words-here (fault p q) = omega arith
 
 module _ (cycle : CycleAt) where
   -- ---- Scan
@@ -51,41 +60,47 @@ module _ (cycle : CycleAt) where
   -- ---- Repeat
   module _ (n a limit : ℕ) where
     -- from where no more are stored
-    repeat-end : (k : ℕ) (m ws : List ℕ) (c : ℕ) → length ws ≤ limit → Ends limit (repeatFrom k cycle n a limit m ws c)
+    repeat-end : (k : ℕ) (m ws : List ℕ) (c : ℕ) → length ws ≤ limit → EndsHere limit (repeatFrom k cycle n a limit m ws c)
     repeat-end zero m ws c b =
         elim (decLt (length ws) limit) [
-          | yes p ↦ rw (repeat-over cycle n a limit m ws c p) (short refl p)
-          | no p ↦ rw (repeat-full cycle n a limit m ws c 0 (omega arith)) (reached refl (omega arith))
+          | yes p ↦ rw (repeat-over cycle n a limit m ws c p) (ends (short refl p))
+          | no p ↦ rw (repeat-full cycle n a limit m ws c 0 (omega arith)) (ends (reached refl (omega arith)))
         ]
     repeat-end (suc k) m ws c b =
         elim (decLt (length ws) limit) [
-          | yes p ↦ rw (repeat-more cycle n a limit m ws c k p)
-              (repeat-end k _ _ (c + 1) (omega (arith, keep-length (cycle m n a (length ws) .reply) ws)))
-          | no p ↦ rw (repeat-full cycle n a limit m ws c (suc k) (omega arith)) (reached refl (omega arith))
+          | yes p ↦ elim (ℕ-discrete (cycle m n a (length ws) .reply .x) 1) [
+            | yes x ↦ rw (repeat-more cycle n a limit m ws c k p x)
+                (repeat-end k _ _ (c + 1) (omega (arith, keep-length (cycle m n a (length ws) .reply) ws)))
+            | no x ↦ rw (repeat-fault cycle n a limit m ws c k p x) (fault refl p)
+          ]
+          | no p ↦ rw (repeat-full cycle n a limit m ws c (suc k) (omega arith)) (ends (reached refl (omega arith)))
         ]
 
     module _ (tries : ℕ) (m : List ℕ) where
-      pub repeat-ends : Ends limit (repeatFrom tries cycle n a limit m [] 0)
+      pub repeat-ends : EndsHere limit (repeatFrom tries cycle n a limit m [] 0)
       repeat-ends = repeat-end tries m [] 0 (omega arith)
 
       pub repeat-words : length (repeatFrom tries cycle n a limit m [] 0 .words) ≤ limit
-      repeat-words = words-of repeat-ends
+      repeat-words = words-here repeat-ends
 
   -- ---- Stop
   module _ (n a : ℕ) where
     -- from where k more are to be stored
-    stop-end : (limit k : ℕ) (m ws : List ℕ) (c : ℕ) → length ws + k ≡ limit → Ends limit (stopFrom k cycle n a m ws c)
-    stop-end limit zero m ws c b = rw (stop-full cycle n a m ws c) (reached refl (omega arith))
+    stop-end : (limit k : ℕ) (m ws : List ℕ) (c : ℕ) → length ws + k ≡ limit → EndsHere limit (stopFrom k cycle n a m ws c)
+    stop-end limit zero m ws c b = rw (stop-full cycle n a m ws c) (ends (reached refl (omega arith)))
     stop-end limit (suc k) m ws c b =
-        elim (ℕ-discrete (cycle m n a (length ws) .reply .q) 1) [
-          | yes q ↦ rw (stop-more cycle n a m ws c k q)
-              (stop-end limit k _ _ (c + 1) (omega (arith, length-append ws (cycle m n a (length ws) .reply .r ∷ []))))
-          | no q ↦ rw (stop-miss cycle n a m ws c k q) (short refl (omega arith))
+        elim (ℕ-discrete (cycle m n a (length ws) .reply .x) 1) [
+          | yes x ↦ elim (ℕ-discrete (cycle m n a (length ws) .reply .q) 1) [
+            | yes q ↦ rw (stop-more cycle n a m ws c k x q)
+                (stop-end limit k _ _ (c + 1) (omega (arith, length-append ws (cycle m n a (length ws) .reply .r ∷ []))))
+            | no q ↦ rw (stop-miss cycle n a m ws c k x q) (ends (short refl (omega arith)))
+          ]
+          | no x ↦ rw (stop-fault cycle n a m ws c k x) (fault refl (omega arith))
         ]
 
     module _ (limit : ℕ) (m : List ℕ) where
-      pub stop-ends : Ends limit (stopFrom limit cycle n a m [] 0)
+      pub stop-ends : EndsHere limit (stopFrom limit cycle n a m [] 0)
       stop-ends = stop-end limit limit m [] 0 (omega arith)
 
       pub stop-words : length (stopFrom limit cycle n a m [] 0 .words) ≤ limit
-      stop-words = words-of stop-ends
+      stop-words = words-here stop-ends

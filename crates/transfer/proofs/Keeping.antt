@@ -80,7 +80,11 @@ module _ (fit : List ℕ → Type 0) (size : (m : List ℕ) → fit m → length
     keeps-repeat-next : (rest : RestHere) (ws : List ℕ) (c : ℕ)
         → ((ws′ : List ℕ) (c′ : ℕ) → Keeps (λ (m : List ℕ). rest m ws′ c′)) → (r : Reply) → Keeps (repeatNext rest ws c r)
     unfolding repeatNext
-    keeps-repeat-next rest ws c h r = h (keep r ws) (c + 1)
+    keeps-repeat-next rest ws c h r = go (eqb (r .x) 1)
+      where
+        go : (t : Bool) → Keeps (λ (m : List ℕ). elim t [ false ↦ ended 3 m ws (c + 1) | true ↦ rest m (keep r ws) (c + 1) ])
+        go false = keeps-ended 3 ws (c + 1)
+        go true = h (keep r ws) (c + 1)
 
     pub keeps-repeat : (k limit : ℕ) (ws : List ℕ) (c : ℕ) → Keeps (λ (m : List ℕ). repeatFrom k cycle n a limit m ws c)
     unfolding repeatFrom
@@ -103,11 +107,15 @@ module _ (fit : List ℕ → Type 0) (size : (m : List ℕ) → fit m → length
     keeps-stop-next : (rest : RestHere) (ws : List ℕ) (c : ℕ)
         → ((ws′ : List ℕ) (c′ : ℕ) → Keeps (λ (m : List ℕ). rest m ws′ c′)) → (r : Reply) → Keeps (stopNext rest ws c r)
     unfolding stopNext
-    keeps-stop-next rest ws c h r = go (eqb (r .q) 1)
+    keeps-stop-next rest ws c h r = go (eqb (r .x) 1) (eqb (r .q) 1)
       where
-        go : (t : Bool) → Keeps (λ (m : List ℕ). elim t [ true ↦ rest m (store r ws) (c + 1) | false ↦ ended 2 m ws (c + 1) ])
-        go true = h (store r ws) (c + 1)
-        go false = keeps-ended 2 ws (c + 1)
+        go : (t u : Bool) → Keeps (λ (m : List ℕ). elim t [
+          | false ↦ ended 3 m ws (c + 1)
+          | true ↦ elim u [ false ↦ ended 2 m ws (c + 1) | true ↦ rest m (store r ws) (c + 1) ]
+        ])
+        go false u = keeps-ended 3 ws (c + 1)
+        go true false = keeps-ended 2 ws (c + 1)
+        go true true = h (store r ws) (c + 1)
 
     pub keeps-stop : (k : ℕ) (ws : List ℕ) (c : ℕ) → Keeps (λ (m : List ℕ). stopFrom k cycle n a m ws c)
     unfolding stopFrom

@@ -14,3 +14,4 @@ pub mod Stopping
 pub mod WalkLaws
 pub mod Putting
 pub mod HeldLaws
+pub mod FaultLaws

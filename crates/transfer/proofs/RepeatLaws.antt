@@ -41,9 +41,15 @@ module _ (cycle : CycleAt) (n a limit : ℕ) (m ws : List ℕ) (c : ℕ) where
   unfolding repeatFrom
   repeat-over p = simp (repeatFrom, lt-ltb _ _ p)
 
-  -- a cycle, and one try less
-  pub repeat-more : (k : ℕ) → length ws < limit
+  -- End 3: X = 0, that cycle counted
+  pub repeat-fault : (k : ℕ) → length ws < limit → (cycle m n a (length ws) .reply .x ≡ 1 → ⊥)
+      → repeatFrom (suc k) cycle n a limit m ws c ≡ ended 3 (cycle m n a (length ws) .memory) ws (c + 1)
+  unfolding repeatFrom repeatNext
+  repeat-fault k p x = simp (repeatFrom, repeatNext, lt-ltb _ _ p, ne-eqb _ _ x)
+
+  -- X = 1: a cycle, and one try less
+  pub repeat-more : (k : ℕ) → length ws < limit → cycle m n a (length ws) .reply .x ≡ 1
       → repeatFrom (suc k) cycle n a limit m ws c
       ≡ repeatFrom k cycle n a limit (cycle m n a (length ws) .memory) (keep (cycle m n a (length ws) .reply) ws) (c + 1)
   unfolding repeatFrom repeatNext
-  repeat-more k p = simp (repeatFrom, repeatNext, lt-ltb _ _ p)
+  repeat-more k p x = simp (repeatFrom, repeatNext, lt-ltb _ _ p, eq-eqb _ _ x)

@@ -10,7 +10,7 @@ use Rattle.station.specs.declared.Reply.{Reply}
 use Rattle.dataway.specs.Stations.{replyOf}
 use Rattle.transfer.specs.Cycle.{Ended, reads, keep}
 use Rattle.transfer.specs.Repeat.{repeatFrom}
-use Rattle.transfer.proofs.RepeatLaws.{keep-hit, keep-miss, repeat-full, repeat-over, repeat-more}
+use Rattle.transfer.proofs.RepeatLaws.{keep-hit, keep-miss, repeat-full, repeat-over, repeat-fault, repeat-more}
 use Rattle.transfer.proofs.Lent.{Lent, Made, lent-kept, lent-put, put-words, lent-words, Done, finish}
 
 pub record Repeating (e : Ended) (n a f limit tries : ℕ) (m₀ buf₀ m buf : List ℕ) (words cycles : ℕ) : Type 0 where
@@ -32,35 +32,45 @@ module _ {e : Ended} {n a f limit tries : ℕ} {m₀ buf₀ m buf : List ℕ} {w
   repeating-over l = finish (g .lent) (omega (arith, g .room)) (from (omega arith) ∙ repeat-over (reads f) n a limit m (take words buf) cycles below)
 
   module _ {m′ : List ℕ} {reply : Reply} (d : Made m n a f reply m′) (more : cycles < tries) where
-    next : e ≡ repeatFrom (tries - (cycles + 1)) (reads f) n a limit m′ (keep (replyOf m n a f 0) (take words buf)) (cycles + 1)
-    next = rw (d .memory) (from (omega arith) ∙ repeat-more (reads f) n a limit m (take words buf) cycles (tries - (cycles + 1)) below)
+    -- X = 0
+    pub repeating-fault : (reply .x ≡ 1 → ⊥) → Done e buf₀ (record { end = 3; words = words; cycles = cycles + 1 }) m′ buf
+    repeating-fault x =
+        finish {e = e} (lent-kept (g .lent) d) (omega (arith, g .room))
+        (rw (d .memory)
+        (from (omega arith) ∙ repeat-fault (reads f) n a limit m (take words buf) cycles (tries - (cycles + 1)) below (rw (d .answer) at x)))
+
+    -- X = 1
+    next : reply .x ≡ 1 → e ≡ repeatFrom (tries - (cycles + 1)) (reads f) n a limit m′ (keep (replyOf m n a f 0) (take words buf)) (cycles + 1)
+    next x =
+        rw (d .memory)
+        (from (omega arith) ∙ repeat-more (reads f) n a limit m (take words buf) cycles (tries - (cycles + 1)) below (rw (d .answer) at x))
 
     put : reply .q ≡ 1 → keep (replyOf m n a f 0) (take words buf) ≡ take (words + 1) (set buf words (reply .r))
     put q = keep-hit (replyOf m n a f 0) (take words buf) (rw (d .answer) at q) ∙ sym (put-words (g .lent) d (omega (arith, g .room)))
 
-    -- Q = 0
-    pub repeating-miss : (reply .q ≡ 1 → ⊥) → Repeating e n a f limit tries m₀ buf₀ m′ buf words (cycles + 1)
-    repeating-miss q = record {
+    -- X = 1 and Q = 0
+    pub repeating-miss : reply .x ≡ 1 → (reply .q ≡ 1 → ⊥) → Repeating e n a f limit tries m₀ buf₀ m′ buf words (cycles + 1)
+    repeating-miss x q = record {
       lent = lent-kept (g .lent) d;
       room = g .room;
       left = omega arith;
-      rest = rw (← keep-miss (replyOf m n a f 0) (take words buf) (rw (d .answer) at q)) (sym next);
+      rest = rw (← keep-miss (replyOf m n a f 0) (take words buf) (rw (d .answer) at q)) (sym (next x));
     }
 
-    -- Q = 1, and there is room for more
-    pub repeating-hit : reply .q ≡ 1 → (words + 1 ≡ limit → ⊥)
+    -- X = 1 and Q = 1, and there is room for more
+    pub repeating-hit : reply .x ≡ 1 → reply .q ≡ 1 → (words + 1 ≡ limit → ⊥)
         → Repeating e n a f limit tries m₀ buf₀ m′ (set buf words (reply .r)) (words + 1) (cycles + 1)
-    repeating-hit q l = record {
+    repeating-hit x q l = record {
       lent = lent-put (g .lent) d;
       room = omega (arith, g .room);
       left = omega arith;
-      rest = rw (← put q) (sym next);
+      rest = rw (← put q) (sym (next x));
     }
 
-    -- Q = 1, and the limit is reached
-    pub repeating-full : reply .q ≡ 1 → words + 1 ≡ limit
+    -- X = 1 and Q = 1, and the limit is reached
+    pub repeating-full : reply .x ≡ 1 → reply .q ≡ 1 → words + 1 ≡ limit
         → Done e buf₀ (record { end = 1; words = words + 1; cycles = cycles + 1 }) m′ (set buf words (reply .r))
-    repeating-full q l =
+    repeating-full x q l =
         finish (lent-put (g .lent) d) (omega arith)
-        (rw (put q) at next
+        (rw (put q) at next x
         ∙ repeat-full (reads f) n a limit m′ _ (cycles + 1) (tries - (cycles + 1)) (omega (arith, lent-words (lent-put (g .lent) d) (omega arith))))

@@ -9,7 +9,7 @@ use lib.ListN.{length, take, set}
 use Rattle.station.specs.declared.Reply.{Reply}
 use Rattle.transfer.specs.Cycle.{Ended, reads}
 use Rattle.transfer.specs.Stop.{stopFrom}
-use Rattle.transfer.proofs.StopLaws.{stop-full, stop-miss, stop-more}
+use Rattle.transfer.proofs.StopLaws.{stop-full, stop-fault, stop-miss, stop-more}
 use Rattle.transfer.proofs.Lent.{Lent, Made, lent-kept, lent-put, put-words, Done, finish}
 
 pub record Stopping (e : Ended) (n a f limit : ℕ) (m₀ buf₀ m buf : List ℕ) (words cycles : ℕ) : Type 0 where
@@ -31,18 +31,24 @@ module _ {e : Ended} {n a f limit : ℕ} {m₀ buf₀ m buf : List ℕ} {words c
     less : limit - words ≡ suc (limit - (words + 1))
     less = omega arith
 
-    -- Q = 0
-    pub stopping-miss : (reply .q ≡ 1 → ⊥) → Done e buf₀ (record { end = 2; words = words; cycles = cycles + 1 }) m′ buf
-    stopping-miss q =
+    -- X = 0
+    pub stopping-fault : (reply .x ≡ 1 → ⊥) → Done e buf₀ (record { end = 3; words = words; cycles = cycles + 1 }) m′ buf
+    stopping-fault x =
         finish {e = e} (lent-kept (g .lent) d) (omega arith)
-        (rw (d .memory) (from less ∙ stop-miss (reads f) n a m (take words buf) cycles _ (rw (d .answer) at q)))
+        (rw (d .memory) (from less ∙ stop-fault (reads f) n a m (take words buf) cycles _ (rw (d .answer) at x)))
 
-    -- Q = 1
-    pub stopping-hit : reply .q ≡ 1 → Stopping e n a f limit m₀ buf₀ m′ (set buf words (reply .r)) (words + 1) (cycles + 1)
-    stopping-hit q = record {
+    -- X = 1 and Q = 0
+    pub stopping-miss : reply .x ≡ 1 → (reply .q ≡ 1 → ⊥) → Done e buf₀ (record { end = 2; words = words; cycles = cycles + 1 }) m′ buf
+    stopping-miss x q =
+        finish {e = e} (lent-kept (g .lent) d) (omega arith)
+        (rw (d .memory) (from less ∙ stop-miss (reads f) n a m (take words buf) cycles _ (rw (d .answer) at x) (rw (d .answer) at q)))
+
+    -- X = 1 and Q = 1
+    pub stopping-hit : reply .x ≡ 1 → reply .q ≡ 1 → Stopping e n a f limit m₀ buf₀ m′ (set buf words (reply .r)) (words + 1) (cycles + 1)
+    stopping-hit x q = record {
       lent = lent-put (g .lent) d;
       room = omega arith;
       pace = omega (arith, g .pace);
       rest = rw (d .memory, put-words (g .lent) d (omega arith))
-          (sym (from less ∙ stop-more (reads f) n a m (take words buf) cycles (limit - (words + 1)) (rw (d .answer) at q)));
+          (sym (from less ∙ stop-more (reads f) n a m (take words buf) cycles (limit - (words + 1)) (rw (d .answer) at x) (rw (d .answer) at q)));
     }

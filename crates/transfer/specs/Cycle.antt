@@ -1,5 +1,5 @@
--- What the block transfers share (RULES 4.1, 4.2, 4.12, 4.13): a cycle is one command, its word is stored when Q = 1, X is not looked at; and what a
--- transfer answers and leaves in the buffer.
+-- What the block transfers share (RULES 4.1, 4.2, 4.12, 4.13): a cycle is one command, its word is stored when Q = 1; and what a transfer answers and leaves
+-- in the buffer. A scan and a put do not look at X; a Repeat and a Stop end where it is 0.
 use mathlib.Core.Bool.{true, false}
 use mathlib.Core.List.{List, [], _∷_, _++_}
 use Prim.Native.Nat.{ℕ}

@@ -5,3 +5,4 @@ pub mod Stop
 pub mod Walk
 pub mod Put
 pub mod Held
+pub mod Faults

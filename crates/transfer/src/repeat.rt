@@ -1,4 +1,4 @@
-// Repeat: the same command again and again, until the limit is reached or the tries are spent.
+// Repeat: the same command again and again, until the limit is reached, it is not accepted, or the tries are spent.
 ghost use mathlib.Core.Path.{_≡_};
 ghost use Prim.Native.Nat.{_≤_};
 ghost use lib.ListN.{length};
@@ -7,9 +7,10 @@ ghost use Rattle.transfer.specs.Cycle.{transferOf, bufferAfter};
 ghost use Rattle.transfer.specs.Repeat.{repeatOf};
 use crate::CUT_SHORT;
 use crate::LIMIT_REACHED;
+use crate::NOT_ACCEPTED;
 use crate::Transfer;
 
-// The limit comes first: a word that reaches it on the last try is end 1.
+// The limit comes first: a word that reaches it on the last try is end 1. X = 0 on the last try is end 3.
 pub fn repeat(
     memory: &mut [u32],
     buffer: &mut [u32],
@@ -30,6 +31,13 @@ pub fn repeat(
     while cycles < tries {
         let reply = dataway::cycle(memory, n, a, f);
         cycles += 1;
+        if reply.x != 1 {
+            return Transfer {
+                end: NOT_ACCEPTED,
+                words,
+                cycles,
+            };
+        }
         if reply.q == 1 {
             buffer[words as usize] = reply.r;
             words += 1;

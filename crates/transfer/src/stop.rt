@@ -1,4 +1,4 @@
-// Stop: the same command again and again, until the limit is reached or one gives Q = 0.
+// Stop: the same command again and again, until the limit is reached, it is not accepted, or one gives Q = 0.
 ghost use mathlib.Core.Path.{_≡_};
 ghost use Prim.Native.Nat.{_≤_};
 ghost use lib.ListN.{length};
@@ -7,9 +7,10 @@ ghost use Rattle.transfer.specs.Cycle.{transferOf, bufferAfter};
 ghost use Rattle.transfer.specs.Stop.{stopOf};
 use crate::CUT_SHORT;
 use crate::LIMIT_REACHED;
+use crate::NOT_ACCEPTED;
 use crate::Transfer;
 
-// The word that reaches the limit ends it with no further cycle; a cycle that gives Q = 0 is counted.
+// The word that reaches the limit ends it with no further cycle; a cycle that gives X = 0 or Q = 0 is counted, and X comes first.
 pub fn stop(memory: &mut [u32], buffer: &mut [u32], n: u32, a: u32, f: u32, limit: u32) -> Transfer
     requires { ⌜ FitCrate (now memory) ⌝ }
     requires { ⌜ (1 ≤ n) × (n ≤ 23) × (a ≤ 15) × (f ≤ 31) × (limit ≤ 512) × (limit ≤ length (now buffer)) ⌝ }
@@ -22,6 +23,13 @@ pub fn stop(memory: &mut [u32], buffer: &mut [u32], n: u32, a: u32, f: u32, limi
     while words < limit {
         let reply = dataway::cycle(memory, n, a, f);
         cycles += 1;
+        if reply.x != 1 {
+            return Transfer {
+                end: NOT_ACCEPTED,
+                words,
+                cycles,
+            };
+        }
         if reply.q != 1 {
             return Transfer {
                 end: CUT_SHORT,

@@ -1,5 +1,5 @@
 -- `repeat` meets its contract. The loop's invariant: the Repeat comes to what it is to come to from where it stands, with the tries that are left
--- (`Repeating`). A cycle keeps it so; the limit reached, or no try left, is an end of the definition.
+-- (`Repeating`). A cycle keeps it so; the limit reached, X = 0, or no try left, is an end of the definition.
 -- Assumes nothing.
 use mathlib.Core.Path.{_≡_, ap}
 use mathlib.Core.List.{[]}
@@ -7,8 +7,8 @@ use Prim.Native.Nat.{ℕ, _-_}
 use native.Mathlib.Omega.{arith}
 use Rattle.transfer.specs.Cycle.{reads}
 use Rattle.transfer.specs.Repeat.{repeatOf, repeatFrom}
-use Rattle.transfer.proofs.Lent.{lent-here, lent-put, made}
-use Rattle.transfer.proofs.Repeating.{Repeating, repeating-over, repeating-miss, repeating-hit, repeating-full}
+use Rattle.transfer.proofs.Lent.{lent-here, lent-kept, lent-put, made}
+use Rattle.transfer.proofs.Repeating.{Repeating, repeating-over, repeating-fault, repeating-miss, repeating-hit, repeating-full}
 use Rattle.transfer.proofs.repeat.repeat.Statement.{statement}
 use Rattle.transfer.proofs.repeat.repeat.Tie as tie
 
@@ -36,6 +36,24 @@ cycle-requires c κs = (c .before .before .loop .inv .lent .fit, (omega arith, o
 add-cycles : tie.Need-add-cycles Inv-loop μ-loop
 add-cycles c = omega arith
 
+same-length : tie.Need-same-length Inv-loop μ-loop
+same-length c =
+    let x = c .before .before .before .before .cycle in
+    let d = made (x .ensures .0) (x .ensures .1) (omega arith) (omega arith) (omega arith) in
+    let g = c .before .before .before .before .before .before .before .loop .inv in
+    lent-kept (g .lent) d .size
+
+same-length-2 : tie.Need-same-length-2 Inv-loop μ-loop
+same-length-2 c = c .before .before .before .before .before .before .before .loop .inv .lent .long
+
+-- X = 0
+returns : tie.Need-returns Inv-loop μ-loop
+returns c =
+    let x = c .before .before .before .before .cycle in
+    let d = made (x .ensures .0) (x .ensures .1) (omega arith) (omega arith) (omega arith) in
+    let g = c .before .before .before .before .before .before .before .loop .inv in
+    repeating-fault g (omega arith) d (omega arith) (c .if1 .taken)
+
 cast-buffer : tie.Need-cast-buffer Inv-loop μ-loop
 cast-buffer c = omega arith
 
@@ -48,27 +66,27 @@ slice-write-buffer c = omega arith
 add-words : tie.Need-add-words Inv-loop μ-loop
 add-words c = omega arith
 
-same-length : tie.Need-same-length Inv-loop μ-loop
-same-length c =
-    let x = c .before .before .before .before .before .cycle in
+same-length-3 : tie.Need-same-length-3 Inv-loop μ-loop
+same-length-3 c =
+    let x = c .before .before .before .before .before .before .before .cycle in
     let d = made (x .ensures .0) (x .ensures .1) (omega arith) (omega arith) (omega arith) in
-    let g = c .before .before .before .before .before .before .before .before .loop .inv in
+    let g = c .before .before .before .before .before .before .before .before .before .before .loop .inv in
     lent-put (g .lent) d .size
 
-same-length-2 : tie.Need-same-length-2 Inv-loop μ-loop
-same-length-2 c =
-    let x = c .before .before .before .before .before .cycle in
+same-length-4 : tie.Need-same-length-4 Inv-loop μ-loop
+same-length-4 c =
+    let x = c .before .before .before .before .before .before .before .cycle in
     let d = made (x .ensures .0) (x .ensures .1) (omega arith) (omega arith) (omega arith) in
-    let g = c .before .before .before .before .before .before .before .before .loop .inv in
+    let g = c .before .before .before .before .before .before .before .before .before .before .loop .inv in
     lent-put (g .lent) d .long
 
 -- the limit is reached
-returns : tie.Need-returns Inv-loop μ-loop
-returns c =
-    let x = c .before .before .before .before .before .cycle in
+returns-2 : tie.Need-returns-2 Inv-loop μ-loop
+returns-2 c =
+    let x = c .before .before .before .before .before .before .before .cycle in
     let d = made (x .ensures .0) (x .ensures .1) (omega arith) (omega arith) (omega arith) in
-    let g = c .before .before .before .before .before .before .before .before .loop .inv in
-    repeating-full g (omega arith) d (omega arith) (c .before .if1 .taken) (c .if2 .taken)
+    let g = c .before .before .before .before .before .before .before .before .before .before .loop .inv in
+    repeating-full g (omega arith) d (omega arith) (c .before .before .before .if1 .left) (c .before .if2 .taken) (c .if3 .taken)
 
 loop-less : tie.Need-loop-less Inv-loop μ-loop
 loop-less c = omega arith
@@ -76,10 +94,10 @@ loop-less c = omega arith
 -- Q = 1
 loop-again : tie.Need-loop-again Inv-loop μ-loop
 loop-again c =
-    let x = c .before .before .before .before .before .cycle in
+    let x = c .before .before .before .before .before .before .before .cycle in
     let d = made (x .ensures .0) (x .ensures .1) (omega arith) (omega arith) (omega arith) in
-    let g = c .before .before .before .before .before .before .before .before .loop .inv in
-    repeating-hit g (omega arith) d (omega arith) (c .before .if1 .taken) (c .if2 .left)
+    let g = c .before .before .before .before .before .before .before .before .before .before .loop .inv in
+    repeating-hit g (omega arith) d (omega arith) (c .before .before .before .if1 .left) (c .before .if2 .taken) (c .if3 .left)
 
 loop-less-2 : tie.Need-loop-less-2 Inv-loop μ-loop
 loop-less-2 c = omega arith
@@ -87,20 +105,20 @@ loop-less-2 c = omega arith
 -- Q = 0
 loop-again-2 : tie.Need-loop-again-2 Inv-loop μ-loop
 loop-again-2 c =
-    let x = c .before .before .before .before .cycle in
+    let x = c .before .before .before .before .before .before .cycle in
     let d = made (x .ensures .0) (x .ensures .1) (omega arith) (omega arith) (omega arith) in
-    let g = c .before .before .before .before .before .before .before .loop .inv in
-    repeating-miss g (omega arith) d (omega arith) (c .if1 .left)
+    let g = c .before .before .before .before .before .before .before .before .before .loop .inv in
+    repeating-miss g (omega arith) d (omega arith) (c .before .before .if1 .left) (c .if2 .left)
 
-same-length-3 : tie.Need-same-length-3 Inv-loop μ-loop
-same-length-3 c = c .before .loop .inv .lent .size
+same-length-5 : tie.Need-same-length-5 Inv-loop μ-loop
+same-length-5 c = c .before .loop .inv .lent .size
 
-same-length-4 : tie.Need-same-length-4 Inv-loop μ-loop
-same-length-4 c = c .before .loop .inv .lent .long
+same-length-6 : tie.Need-same-length-6 Inv-loop μ-loop
+same-length-6 c = c .before .loop .inv .lent .long
 
 -- cycles equal tries
-returns-2 : tie.Need-returns-2 Inv-loop μ-loop
-returns-2 c = repeating-over (c .before .loop .inv) (omega arith) (c .loop-test .left)
+returns-3 : tie.Need-returns-3 Inv-loop μ-loop
+returns-3 c = repeating-over (c .before .loop .inv) (omega arith) (c .loop-test .left)
 
 pub repeat-spec : {M : Type 1} → statement M
 repeat-spec =
@@ -111,17 +129,20 @@ repeat-spec =
     loop-holds
     cycle-requires
     add-cycles
+    same-length
+    same-length-2
+    returns
     cast-buffer
     mul-buffer
     slice-write-buffer
     add-words
-    same-length
-    same-length-2
-    returns
+    same-length-3
+    same-length-4
+    returns-2
     loop-less
     loop-again
     loop-less-2
     loop-again-2
-    same-length-3
-    same-length-4
-    returns-2)
+    same-length-5
+    same-length-6
+    returns-3)

@@ -1,5 +1,5 @@
 -- `stop` meets its contract. The loop's invariant: the Stop comes to what it is to come to from where it stands, and each cycle so far stored a word
--- (`Stopping`). A cycle with Q = 1 keeps it so; Q = 0, or a full count of words, is an end of the definition.
+-- (`Stopping`). A cycle with Q = 1 keeps it so; X = 0, Q = 0, or a full count of words, is an end of the definition.
 -- Assumes nothing.
 use mathlib.Core.Path.{_≡_, refl, ap}
 use mathlib.Core.List.{[]}
@@ -8,7 +8,7 @@ use native.Mathlib.Omega.{arith}
 use Rattle.transfer.specs.Cycle.{reads}
 use Rattle.transfer.specs.Stop.{stopOf, stopFrom}
 use Rattle.transfer.proofs.Lent.{lent-here, lent-kept, made}
-use Rattle.transfer.proofs.Stopping.{Stopping, stopping-full, stopping-miss, stopping-hit}
+use Rattle.transfer.proofs.Stopping.{Stopping, stopping-full, stopping-fault, stopping-miss, stopping-hit}
 use Rattle.transfer.proofs.stop.stop.Statement.{statement}
 use Rattle.transfer.proofs.stop.stop.Tie as tie
 
@@ -46,13 +46,31 @@ same-length c =
 same-length-2 : tie.Need-same-length-2 Inv-loop μ-loop
 same-length-2 c = c .before .before .before .before .before .before .before .loop .inv .lent .long
 
--- Q = 0
+-- X = 0
 returns : tie.Need-returns Inv-loop μ-loop
 returns c =
     let x = c .before .before .before .before .cycle in
     let d = made (x .ensures .0) (x .ensures .1) (omega arith) (omega arith) (omega arith) in
     let g = c .before .before .before .before .before .before .before .loop .inv in
-    stopping-miss g (omega arith) d (omega arith) (c .if1 .taken)
+    stopping-fault g (omega arith) d (omega arith) (c .if1 .taken)
+
+same-length-3 : tie.Need-same-length-3 Inv-loop μ-loop
+same-length-3 c =
+    let x = c .before .before .before .before .before .before .cycle in
+    let d = made (x .ensures .0) (x .ensures .1) (omega arith) (omega arith) (omega arith) in
+    let g = c .before .before .before .before .before .before .before .before .before .loop .inv in
+    lent-kept (g .lent) d .size
+
+same-length-4 : tie.Need-same-length-4 Inv-loop μ-loop
+same-length-4 c = c .before .before .before .before .before .before .before .before .before .loop .inv .lent .long
+
+-- Q = 0
+returns-2 : tie.Need-returns-2 Inv-loop μ-loop
+returns-2 c =
+    let x = c .before .before .before .before .before .before .cycle in
+    let d = made (x .ensures .0) (x .ensures .1) (omega arith) (omega arith) (omega arith) in
+    let g = c .before .before .before .before .before .before .before .before .before .loop .inv in
+    stopping-miss g (omega arith) d (omega arith) (c .before .before .if1 .left) (c .if2 .taken)
 
 cast-buffer : tie.Need-cast-buffer Inv-loop μ-loop
 cast-buffer c = omega arith
@@ -71,20 +89,20 @@ loop-less c = omega arith
 
 loop-again : tie.Need-loop-again Inv-loop μ-loop
 loop-again c =
-    let x = c .before .before .before .before .cycle in
+    let x = c .before .before .before .before .before .before .cycle in
     let d = made (x .ensures .0) (x .ensures .1) (omega arith) (omega arith) (omega arith) in
-    let g = c .before .before .before .before .before .before .before .loop .inv in
-    stopping-hit g (omega arith) d (omega arith) (c .if1 .left)
+    let g = c .before .before .before .before .before .before .before .before .before .loop .inv in
+    stopping-hit g (omega arith) d (omega arith) (c .before .before .if1 .left) (c .if2 .left)
 
-same-length-3 : tie.Need-same-length-3 Inv-loop μ-loop
-same-length-3 c = c .before .loop .inv .lent .size
+same-length-5 : tie.Need-same-length-5 Inv-loop μ-loop
+same-length-5 c = c .before .loop .inv .lent .size
 
-same-length-4 : tie.Need-same-length-4 Inv-loop μ-loop
-same-length-4 c = c .before .loop .inv .lent .long
+same-length-6 : tie.Need-same-length-6 Inv-loop μ-loop
+same-length-6 c = c .before .loop .inv .lent .long
 
 -- the limit is reached
-returns-2 : tie.Need-returns-2 Inv-loop μ-loop
-returns-2 c = stopping-full (c .before .loop .inv) (omega arith) (c .loop-test .left)
+returns-3 : tie.Need-returns-3 Inv-loop μ-loop
+returns-3 c = stopping-full (c .before .loop .inv) (omega arith) (c .loop-test .left)
 
 pub stop-spec : {M : Type 1} → statement M
 stop-spec =
@@ -98,12 +116,15 @@ stop-spec =
     same-length
     same-length-2
     returns
+    same-length-3
+    same-length-4
+    returns-2
     cast-buffer
     mul-buffer
     slice-write-buffer
     add-words
     loop-less
     loop-again
-    same-length-3
-    same-length-4
-    returns-2)
+    same-length-5
+    same-length-6
+    returns-3)
