@@ -203,7 +203,7 @@ unfolding blockOf withBlock inTable sourcesOf isUsed headerTests isFitHeader isF
     isFitCrate withModule
 around5-fit = refl
 
-three-sample : outs leaves gives around5 (command3 ∷ repeat5 ∷ stop7 ∷ []) ≡ replied ∷ three ∷ reached ∷ []
+pub three-sample : outs leaves gives around5 (command3 ∷ repeat5 ∷ stop7 ∷ []) ≡ replied ∷ three ∷ reached ∷ []
 unfolding blockOf withBlock inTable sourcesOf isUsed headerTests isFitHeader isFitSpare isFitRegister fitTests isFitBlock isFitRest isFitStation crateTests
     isFitCrate withModule readOf functionsOf commandOf replyOf afterCommand keep repeatNext repeatFrom stopNext stopFrom commandVerdict repeatVerdict stopVerdict
     stepOf doneOf

@@ -2,7 +2,7 @@
 -- cycle, and one that is not ends the transfer in its first.
 -- Assumes nothing.
 use mathlib.Core.Path.{_≡_, refl, sym, ap, _∙_}
-use mathlib.Core.Bool.{Bool, true, false, true≢false, _&&_}
+use mathlib.Core.Bool.{true, false, true≢false, cond, _&&_}
 use mathlib.Core.Logic.{⊎-elim}
 use mathlib.Core.List.{List, []}
 use Prim.Native.Nat.{ℕ, zero, suc, _+_, _≤_, _<_}
@@ -59,17 +59,23 @@ module _ (b : List ℕ) (a : ℕ) (f : FitBlock b) where
       found : a < countOf b → isOneOf (kindOf b) registerKinds && ltb a (countOf b) ≡ true
       found l = rw (register-kind b a f (eqb-false (kindOf b) 4 k) l, lt-ltb a (countOf b) l)
 
+  -- a command that reads the one or the other
+  reading : (o u : Outcome) → o .reply .x ≡ 1 → u .reply .x ≡ 1
+      → Below (cond (isBuffer b) (accept (eqb a 0) b (unlessEmpty b o)) (group1 registerKinds b a u))
+  reading o u x y =
+      by-cases Below (isBuffer b) (accept (eqb a 0) b (unlessEmpty b o)) (group1 registerKinds b a u) (λ k. at-buffer o k x) (λ k. at-registers u k y)
+
   below-0 : Below (commandOf b a 0 0)
   unfolding commandOf functionsOf readOf bufferReadOf
-  below-0 = by-cases Below (isBuffer b) _ _ (λ k. at-buffer _ k refl) (λ k. at-registers _ k refl)
+  below-0 = reading _ _ refl refl
 
   below-2 : Below (commandOf b a 2 0)
   unfolding commandOf functionsOf readAndClearOf bufferReadAndClearOf
-  below-2 = by-cases Below (isBuffer b) _ _ (λ k. at-buffer _ k refl) (λ k. at-registers _ k refl)
+  below-2 = reading _ _ refl refl
 
   below-3 : Below (commandOf b a 3 0)
   unfolding commandOf functionsOf readComplementOf bufferReadComplementOf
-  below-3 = by-cases Below (isBuffer b) _ _ (λ k. at-buffer _ k refl) (λ k. at-registers _ k refl)
+  below-3 = reading _ _ refl refl
 
 -- ---- at the crate
 pub accepted-below : AcceptedBelow
@@ -115,16 +121,16 @@ module _ (m : List ℕ) (n a f : ℕ) (h : Aimed m n a f) where
 
 -- ---- Repeat
 -- accepted in every cycle
-repeat-fine : (n a f limit k : ℕ) (m ws : List ℕ) (c : ℕ) → Aimed m n a f → a < registers m n → repeatFrom k (reads f) n a limit m ws c .end ≤ 2
-repeat-fine n a f limit zero m ws c h l =
+repeat-accepted : (n a f limit k : ℕ) (m ws : List ℕ) (c : ℕ) → Aimed m n a f → a < registers m n → repeatFrom k (reads f) n a limit m ws c .end ≤ 2
+repeat-accepted n a f limit zero m ws c h l =
     elim (decLt (length ws) limit) [
       | yes p ↦ rw (repeat-over (reads f) n a limit m ws c p) (omega arith)
       | no p ↦ rw (repeat-full (reads f) n a limit m ws c 0 (omega arith)) (omega arith)
     ]
-repeat-fine n a f limit (suc k) m ws c h l =
+repeat-accepted n a f limit (suc k) m ws c h l =
     elim (decLt (length ws) limit) [
       | yes p ↦ rw (repeat-more (reads f) n a limit m ws c k p (accepted-below m n a f h .0 l))
-          (repeat-fine n a f limit k _ _ (c + 1) (again m n a f h) (omega (arith, l, same-r m n a f h)))
+          (repeat-accepted n a f limit k _ _ (c + 1) (again m n a f h) (omega (arith, l, same-r m n a f h)))
       | no p ↦ rw (repeat-full (reads f) n a limit m ws c (suc k) (omega arith)) (omega arith)
     ]
 
@@ -136,16 +142,16 @@ repeat-first m n a f limit (suc k) h r s z = repeat-fault (reads f) n a limit m 
 
 pub repeat-ends-three : RepeatEndsThree
 repeat-ends-three m n a f limit tries h r s =
-    one-or-other m n a f h (repeat-fine n a f limit tries m [] 0 h) (repeat-first m n a f limit tries h r s)
+    one-or-other m n a f h (repeat-accepted n a f limit tries m [] 0 h) (repeat-first m n a f limit tries h r s)
 
 -- ---- Stop
 -- accepted in every cycle
-stop-fine : (n a f k : ℕ) (m ws : List ℕ) (c : ℕ) → Aimed m n a f → a < registers m n → stopFrom k (reads f) n a m ws c .end ≤ 2
-stop-fine n a f zero m ws c h l = rw (stop-full (reads f) n a m ws c) (omega arith)
-stop-fine n a f (suc k) m ws c h l =
+stop-accepted : (n a f k : ℕ) (m ws : List ℕ) (c : ℕ) → Aimed m n a f → a < registers m n → stopFrom k (reads f) n a m ws c .end ≤ 2
+stop-accepted n a f zero m ws c h l = rw (stop-full (reads f) n a m ws c) (omega arith)
+stop-accepted n a f (suc k) m ws c h l =
     elim (ℕ-discrete (replyOf m n a f 0 .q) 1) [
       | yes q ↦ rw (stop-more (reads f) n a m ws c k (accepted-below m n a f h .0 l) q)
-          (stop-fine n a f k _ _ (c + 1) (again m n a f h) (omega (arith, l, same-r m n a f h)))
+          (stop-accepted n a f k _ _ (c + 1) (again m n a f h) (omega (arith, l, same-r m n a f h)))
       | no q ↦ rw (stop-miss (reads f) n a m ws c k (accepted-below m n a f h .0 l) q) (omega arith)
     ]
 
@@ -155,4 +161,4 @@ stop-first m n a f zero h r z = absurd (omega arith)
 stop-first m n a f (suc k) h r z = stop-fault (reads f) n a m [] 0 k (no-x m n a f h z) ∙ as-was m n a f h z
 
 pub stop-ends-three : StopEndsThree
-stop-ends-three m n a f limit h r = one-or-other m n a f h (stop-fine n a f limit m [] 0 h) (stop-first m n a f limit h r)
+stop-ends-three m n a f limit h r = one-or-other m n a f h (stop-accepted n a f limit m [] 0 h) (stop-first m n a f limit h r)

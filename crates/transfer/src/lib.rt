@@ -16,7 +16,7 @@ pub struct Transfer {
 // End 1: the limit is reached.
 pub const LIMIT_REACHED: u32 = 1;
 
-// End 2: the transfer is over with fewer words.
+// End 2: the transfer is over with fewer words: past `to`, no try left, or Q = 0.
 pub const CUT_SHORT: u32 = 2;
 
 // End 3: the command of a Repeat or a Stop is not accepted.
