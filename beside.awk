@@ -8,8 +8,10 @@ BEGIN {
     table = "cat"  # says what it cannot write; not every awk does
 
     said["done=1"] = "done"
-    said["taken=1"] = "taken"
     said["taken=0"] = "not taken"
+    said["taken=1"] = "taken"
+    said["taken=2"] = "taken, and a status bit was raised"
+    said["taken=3"] = "lost: the buffer memory is full"
 
     end2["op=scan"] = end2["op=put"] = "past `to`"
     end2["op=repeat"] = "tries used up"

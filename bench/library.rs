@@ -1,10 +1,10 @@
 // Calls the library through its C functions on random arrays, and compares each call with the
 // crate of reference.rs: the number returned, and every word of the memory, answers and buffers.
 //   library SEED COUNT
-// makes COUNT calls, the same ones for the same seed, after some puts of lent words, Repeats and Stops that were worked out by hand.
+// makes COUNT calls, the same ones for the same seed, after some puts of lent words, Repeats, Stops and front events that were worked out by hand.
 // Ends with 0 when none differs, with 1 at the first that does, after printing it; a step by hand that differs is a
 // panic; 2 means that the two numbers were not given.
-// What the calls have to do is written from document 01, requests L1 and L3 of document 02, include/pagontxu.h and docs/DECISIONS.md.
+// What the calls have to do is written from document 01, requests L1, L3 and L4 of document 02, include/pagontxu.h and docs/DECISIONS.md.
 
 #[allow(dead_code)]
 #[path = "reference.rs"]
@@ -278,7 +278,7 @@ fn run(memory: &mut [u32], step: Option<Step>, buffer: &mut [u32]) -> Result<[u3
     buffer[..words.len()].copy_from_slice(&words);
     Ok(match answer {
         Answer::Replied(reply) => [1, reply.x, reply.q, reply.r],
-        Answer::Taken(taken) => [2, taken as u32, 0, 0],
+        Answer::Taken(taken) => [2, taken, 0, 0],
         Answer::Done => [3, 1, 0, 0],
         Answer::Looked(l, count, first) => [4, l, count, first],
         Answer::Transferred(transfer) => [5, transfer.end, words.len() as u32, transfer.cycles],
@@ -795,7 +795,7 @@ fn any_call(chance: &mut Chance, memory: &Lent<u32>) -> (Call, Arrays) {
     (call, arrays)
 }
 
-// ---- puts worked out by hand ----
+// ---- steps worked out by hand ----
 
 // The words lent, the limit, the answer, and the registers after the put.
 type HandPut = (Vec<u32>, u32, [u32; ANSWER], [u32; 4]);
@@ -841,6 +841,39 @@ const TRANSFERS_BY_HAND: [([u32; STEP], [u32; ANSWER], &[u32]); 8] = [
     ([9, 3, 1, 0, 1, 0], [5, 1, 1, 1], &[9]),
 ];
 
+// A front event at station 7: Inhibit; kind, r, status, mask and fill of the module there, head 0; A and v; the digit; afterwards status and fill, and a register
+// with its word.
+type HandFront = (u32, [u32; 5], [u32; 2], u32, [u32; 4]);
+
+// Before each, register A, if there is one, holds 16777215; of a buffer memory, the filled places do.
+const FRONTS_BY_HAND: [HandFront; 19] = [
+    // a scaler: v = 0; a carry; a carry with the bit set; a carry with another bit set, all masked and none
+    (0, [1, 2, 0, 0, 0], [0, 0], 1, [0, 0, 0, 16777215]),
+    (0, [1, 2, 0, 0, 0], [0, 1], 2, [1, 0, 0, 0]),
+    (0, [1, 2, 1, 3, 0], [0, 1], 1, [1, 0, 0, 0]),
+    (0, [1, 2, 1, 0, 0], [1, 1], 2, [3, 0, 1, 0]),
+    (0, [1, 2, 2, 3, 0], [0, 5], 2, [3, 0, 0, 4]),
+    // an input register: the last source of sixteen, which v = 0 raises too
+    (0, [3, 16, 32767, 0, 0], [15, 0], 2, [65535, 0, 15, 0]),
+    (0, [3, 16, 65535, 0, 0], [15, 5], 1, [65535, 0, 15, 5]),
+    // a counter at -1: to 0; to -2
+    (0, [5, 1, 0, 1, 0], [0, 1], 2, [1, 0, 0, 0]),
+    (0, [5, 1, 0, 1, 0], [0, 16777215], 1, [0, 0, 0, 16777214]),
+    // a buffer memory: its first word; bit 0 set at fill 0; bit 0 clear with words in it; the sixteenth
+    (0, [4, 1, 0, 0, 0], [0, 9], 2, [1, 1, 0, 9]),
+    (0, [4, 1, 1, 3, 0], [0, 9], 1, [1, 1, 0, 9]),
+    (0, [4, 1, 2, 0, 9], [0, 9], 2, [3, 10, 9, 9]),
+    (0, [4, 1, 1, 0, 15], [0, 9], 1, [1, 16, 15, 9]),
+    // full: lost, whether bit 1 was set or not; under Inhibit and at A1 not taken
+    (0, [4, 1, 0, 0, 16], [0, 9], 3, [2, 16, 0, 16777215]),
+    (0, [4, 1, 3, 3, 16], [0, 9], 3, [3, 16, 0, 16777215]),
+    (1, [4, 1, 1, 0, 16], [0, 9], 0, [1, 16, 0, 16777215]),
+    (0, [4, 1, 1, 0, 16], [1, 9], 0, [1, 16, 0, 16777215]),
+    // an output register; an empty station
+    (0, [2, 1, 0, 0, 0], [0, 9], 0, [0, 0, 0, 16777215]),
+    (0, [0, 0, 0, 0, 0], [0, 9], 0, [0, 0, 0, 0]),
+];
+
 // Asserts that library and reference both do the step as the hand has it: the number returned, the answer, memory and buffer, each as it was before and as
 // it is after.
 fn try_by_hand(step: [u32; STEP], answer: [u32; ANSWER], memory: [&[u32]; 2], buffer: [&[u32]; 2]) {
@@ -882,7 +915,25 @@ fn try_all_by_hand() {
         let after = [stored, &buffer[stored.len()..]].concat();
         try_by_hand(step, answer, [&memory, &memory], [&buffer, &after]);
     }
-    println!("{} puts, {} Repeats and Stops worked out by hand, 0 differ", puts_by_hand().len(), TRANSFERS_BY_HAND.len());
+    for (inhibit, [kind, r, status, mask, fill], [a, v], digit, [status_after, fill_after, place, word]) in FRONTS_BY_HAND {
+        let register = |place: u32| station(7) + 16 + place as usize;
+        let held = match kind {
+            0 => 0..0,
+            4 => register(0)..register(fill),
+            _ => register(a)..register(a + 1),
+        };
+        let mut before = vec![0; MEMORY];
+        before[0] = inhibit;
+        before[station(7)..station(7) + 6].copy_from_slice(&[kind, r, status, mask, 0, fill]);
+        before[held].fill(16777215);
+        let mut after = before.clone();
+        after[station(7) + 2] = status_after;
+        after[station(7) + 5] = fill_after;
+        after[register(place)] = word;
+        try_by_hand([2, 7, a, v, 0, 0], [2, digit, 0, 0], [&before, &after], [&[77], &[77]]);
+    }
+    let (puts, transfers, fronts) = (puts_by_hand().len(), TRANSFERS_BY_HAND.len(), FRONTS_BY_HAND.len());
+    println!("{puts} puts, {transfers} Repeats and Stops, {fronts} front events worked out by hand, 0 differ");
 }
 
 // ---- what is printed of a difference ----

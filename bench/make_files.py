@@ -215,6 +215,12 @@ def random_crate(rng):
     return modules, b"\n".join(lines) + rng.choice([b"\n", b"", b"\n\n"])
 
 
+def burst(rng, modules):
+    """Inhibit off or on, and more events at a buffer memory than it holds."""
+    n = rng.choice([n for n, kind, _ in modules if kind == 4] or [1])
+    return [b"op=i v=%d" % rng.choice([0, 0, 0, 1])] + [b"op=front n=%d a=0 v=%d" % (n, word(rng)) for _ in range(rng.randint(16, 19))]
+
+
 def random_folder(path, seed):
     rng = random.Random("folder %d" % seed)
     modules, crate = random_crate(rng)
@@ -227,6 +233,8 @@ def random_folder(path, seed):
             lines.append(spoiled(rng, line))
         else:
             lines.append((edge_fields(rng, line) if pick < 2 * bad else line).encode())
+        if rng.random() < 0.02:
+            lines += burst(rng, modules)
     run = b"\n".join(lines) + (b"\n" if lines and rng.random() < 0.9 else b"")
     write_folder(path, crate, None if not lines and rng.random() < 0.5 else run)
 

@@ -1,4 +1,4 @@
-// The CAMAC rehearsal in plain C, written from document 01 and requests L1 and L3 of document 02, read as docs/RULES.md has them.
+// The CAMAC rehearsal in plain C, written from document 01 and requests L1, L3 and L4 of document 02, read as docs/RULES.md has them.
 // It shares no code with the proved program, so that the two can be compared, in what they print and in how fast they are.
 // Build: gcc -O3 -DSTDIO plain.c has the C library read lines and print numbers, as a C program mostly does; gcc -O3 plain.c does both by hand, to be quick.
 // It reads crate.txt and run.txt in the current folder, or the two files named, and prints the sheet.
@@ -225,37 +225,39 @@ static int32_t as_signed(uint32_t word)
     return word < MODULUS / 2 ? (int32_t)word : (int32_t)word - MODULUS;
 }
 
-// A front event with Inhibit at 0: whether it was taken.
-static bool front(struct station *m, uint32_t a, uint32_t v)
+// A front event with Inhibit at 0: 0 not taken, 1 taken, 2 taken and a status bit went from 0 to 1, 3 the word was lost.
+static uint32_t front(struct station *m, uint32_t a, uint32_t v)
 {
+    uint32_t before = m->status;
     if (a >= m->r)
-        return false;
+        return 0;
     switch (m->kind) {
     case SCALER:
         count(m, a, v);
-        return true;
+        break;
     case INPUT:
         m->word[a] = v;
         m->status |= 1u << a;
-        return true;
+        break;
     case COUNTER: {
         int32_t old = as_signed(m->word[a]), sum = old + as_signed(v);
         m->word[a] = (uint32_t)sum % MODULUS;
         if (sum < -MODULUS / 2 || sum >= MODULUS / 2 || (sum == 0 && old != 0))
             m->status |= 1u << a;
-        return true;
+        break;
     }
     case BUFFER:
         if (m->fill == 16) {
             m->status |= 2;
-            return false;
+            return 3;
         }
         m->word[(m->head + m->fill++) % 16] = v;
         m->status |= 1;
-        return true;
+        break;
     default:
-        return false;
+        return 0;
     }
+    return (m->status & ~before) != 0 ? 2 : 1;
 }
 
 // ---- the steps: each puts what it prints after `step=K`, or answers a refusal number ----
@@ -299,7 +301,7 @@ static uint32_t do_front(uint32_t n, uint32_t a, uint32_t v)
         return bad;
     if (v > WORD_MAX)
         return OVERWIDE_WORD;
-    PUT_FIELD(" taken=", !inhibit && front(&crate[n], a, v));
+    PUT_FIELD(" taken=", inhibit ? 0 : front(&crate[n], a, v));
     return 0;
 }
 

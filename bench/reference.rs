@@ -1,4 +1,4 @@
-// The crate, its steps and its lines in plain Rust, written from document 01 and requests L1 and L3 of document 02, read as docs/RULES.md has them.
+// The crate, its steps and its lines in plain Rust, written from document 01 and requests L1, L3 and L4 of document 02, read as docs/RULES.md has them.
 // It shares no code with the proved library, so that library.rs can compare the two call by call.
 
 use std::collections::VecDeque;
@@ -189,13 +189,18 @@ impl Module {
         DONE
     }
 
-    // A scaler's sum, with the carry into its status bit.
-    fn count(&mut self, a: u32, v: u32) {
+    // Sets a status bit; says whether it was 0.
+    fn raise(&mut self, bit: u32) -> bool {
+        let was_down = self.status >> bit & 1 == 0;
+        self.status |= 1 << bit;
+        was_down
+    }
+
+    // A scaler's sum, with the carry into its status bit; says whether that bit rose.
+    fn count(&mut self, a: u32, v: u32) -> bool {
         let sum = self.registers[a as usize] + v;
         self.registers[a as usize] = sum % MODULUS;
-        if sum >= MODULUS {
-            self.status |= 1 << a;
-        }
+        sum >= MODULUS && self.raise(a)
     }
 
     fn lam_command(&mut self, a: u32, f: u32) -> Reply {
@@ -234,43 +239,35 @@ impl Module {
         DONE
     }
 
-    // A front event with Inhibit at 0; says whether it was taken.
-    fn front(&mut self, a: u32, v: u32) -> bool {
+    // A front event with Inhibit at 0: 0 not taken, 1 taken, 2 taken and a status bit rose, 3 the word is lost.
+    fn front(&mut self, a: u32, v: u32) -> u32 {
         if a >= self.r {
-            return false;
+            return 0;
         }
-        match self.kind {
-            Kind::Empty | Kind::Output => false,
-            Kind::Scaler => {
-                self.count(a, v);
-                true
-            }
+        let rose = match self.kind {
+            Kind::Empty | Kind::Output => return 0,
+            Kind::Scaler => self.count(a, v),
             Kind::Input => {
                 self.registers[a as usize] = v;
-                self.status |= 1 << a;
-                true
+                self.raise(a)
             }
             Kind::Counter => {
                 let old = signed(self.registers[a as usize]);
                 let sum = old + signed(v);
                 let outside = sum < -8_388_608 || sum > 8_388_607;
-                if outside || (sum == 0 && old != 0) {
-                    self.status |= 1 << a;
-                }
                 self.registers[a as usize] = sum.rem_euclid(MODULUS as i64) as u32;
-                true
+                (outside || (sum == 0 && old != 0)) && self.raise(a)
             }
             Kind::Buffer => {
                 if self.words.len() == BUFFER_PLACES {
-                    self.status |= 2;
-                    false
-                } else {
-                    self.words.push_back(v);
-                    self.status |= 1;
-                    true
+                    self.raise(1);
+                    return 3;
                 }
+                self.words.push_back(v);
+                self.raise(0)
             }
-        }
+        };
+        if rose { 2 } else { 1 }
     }
 }
 
@@ -291,8 +288,8 @@ impl Crate {
         self.stations[n as usize].command(a, f, w)
     }
 
-    fn front(&mut self, n: u32, a: u32, v: u32) -> bool {
-        !self.inhibit && self.stations[n as usize].front(a, v)
+    fn front(&mut self, n: u32, a: u32, v: u32) -> u32 {
+        if self.inhibit { 0 } else { self.stations[n as usize].front(a, v) }
     }
 
     fn initialize(&mut self) {
@@ -478,7 +475,7 @@ pub enum Step {
 
 pub enum Answer {
     Replied(Reply),
-    Taken(bool),
+    Taken(u32),
     Done,
     Looked(u32, u32, u32),
     Transferred(Transfer),

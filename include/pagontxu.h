@@ -1,6 +1,6 @@
 /* pagontxu.h: a rehearsal of a CAMAC crate, for programs in C, Fortran or Python.
  *
- * The rules are those of document 01, "The CAMAC rehearsal crate", and of document 02, request L1, the put; docs/RULES.md has them, numbered. Each function is
+ * The rules are those of document 01, "The CAMAC rehearsal crate", and of document 02, requests L1 to L4; docs/RULES.md has them, numbered. Each function is
  * proved to return and to leave what its definition in crates/capi/specs/Calls.antt says, for any contents and any lengths of the arrays that it is lent.
  *
  * Build the archive with `rt staticlib capi` and link target/staticlib/libcapi.a (x86-64 Linux). The library keeps no state, allocates nothing
@@ -52,7 +52,11 @@
  * AN ANSWER: four words.
  *   0 refused               the refusal number, 0, 0
  *   1 a command             X, Q, R
- *   2 a front event         taken (1 or 0), 0, 0
+ *   2 a front event         its digit, 0, 0
+ *                           0  not taken: I is 1, a is r or above, or the station is empty or an output register
+ *                           1  taken, and no status bit of the station went from 0 to 1
+ *                           2  taken, and a status bit of the station went from 0 to 1, masked or not
+ *                           3  its word was lost in a full buffer memory, whether status bit 1 was set before or not
  *   3 Z, C or I             1, 0, 0
  *   4 Look-at-Me reading    L, count, first
  *   5 scan, Repeat or Stop  end, words, cycles; the words are in the buffer, which keeps what it held past them

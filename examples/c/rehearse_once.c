@@ -54,7 +54,7 @@ int main(void)
     static const uint32_t steps[][PAGONTXU_STEP_WORDS] = {
         {2, 3, 0, 16777215, 0, 0}, /* front n=3 a=0 v=16777215: the register is full */
         {1, 3, 0, 26, 0, 0},       /* naf n=3 a=0 f=26: mask bit 0 is set */
-        {1, 3, 0, 25, 0, 0},       /* naf n=3 a=0 f=25: one more, the register goes to 0 and raises its LAM */
+        {2, 3, 0, 1, 0, 0},        /* front n=3 a=0 v=1: one more, the register goes to 0 and its status bit to 1, so 2 */
         {6, 0, 0, 0, 0, 0},        /* lam */
         {2, 3, 1, 7, 0, 0},        /* front n=3 a=1 v=7 */
         {7, 3, 0, 2, 3, 8},        /* scan n=3 a=0 f=2 to=3 limit=8 */

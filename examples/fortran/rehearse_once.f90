@@ -62,7 +62,7 @@ program rehearse_once
   if (number /= 0) stop 1
   call run("op=front n=3 a=0 v=16777215")
   call run("op=naf n=3 a=0 f=26 w=0")
-  call run("op=naf n=3 a=0 f=25 w=0")
+  call run("op=front n=3 a=0 v=1")
   call run("op=lam")
   call run("op=front n=3 a=1 v=7")
   call run("op=scan n=3 a=0 f=2 to=3 limit=8")

@@ -76,7 +76,7 @@ def main():
     for line in (
         b"op=front n=3 a=0 v=16777215",
         b"op=naf n=3 a=0 f=26 w=0",
-        b"op=naf n=3 a=0 f=25 w=0",
+        b"op=front n=3 a=0 v=1",
         b"op=lam",
         b"op=front n=3 a=1 v=7",
     ):

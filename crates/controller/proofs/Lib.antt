@@ -8,3 +8,4 @@ pub mod FinishedLaws
 pub mod ScansLaws
 pub mod ScanSamples
 pub mod NotAcceptedLaws
+pub mod FrontsLaws

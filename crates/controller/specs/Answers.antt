@@ -5,7 +5,7 @@ use Rattle.step.specs.Refusals.{refusalNumber}
 use Rattle.controller.specs.declared.Answer.{Answer}
 use Rattle.controller.specs.declared.Answer.the-variants.{Replied, Taken, Done, Looked, Transferred, Wrote, Refused}
 
--- 0 and the refusal number; 1 and X, Q, R; 2 and taken; 3 and done; 4 and L, count, first; 5 and end, words, cycles; 6 and the same of a put
+-- 0 and the refusal number; 1 and X, Q, R; 2 and the digit of a front event; 3 and done; 4 and L, count, first; 5 and end, words, cycles; 6 and the same of a put
 abbrev pub answerWords : Answer → List ℕ
 answerWords (Refused q) = 0 ∷ refusalNumber q ∷ 0 ∷ 0 ∷ []
 answerWords (Replied p) = 1 ∷ p .x ∷ p .q ∷ p .r ∷ []

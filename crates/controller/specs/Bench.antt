@@ -36,15 +36,15 @@ buffer = record { n = 1; kind = 4; r = 1 }
 abbrev pub Bench : Type 0
 Bench =
     -- P1 scaler 16777215, v 1: 0, bit set
-    (frontOf 0 (holding 1 0 0 16777215) 0 1 ≡ record { block = holding 1 1 0 0; taken = 1 })
+    (frontOf 0 (holding 1 0 0 16777215) 0 1 ≡ record { block = holding 1 1 0 0; taken = 2 })
     -- P2 v 0: unchanged, no bit
     × (frontOf 0 (holding 1 0 0 16777215) 0 0 ≡ record { block = holding 1 0 0 16777215; taken = 1 })
     -- P3 counter 8388607, v 1: 8388608, bit
-    × (frontOf 0 (holding 5 0 0 8388607) 0 1 ≡ record { block = holding 5 1 0 8388608; taken = 1 })
+    × (frontOf 0 (holding 5 0 0 8388607) 0 1 ≡ record { block = holding 5 1 0 8388608; taken = 2 })
     -- P4 counter 0, v 16777215: 16777215, no bit
     × (frontOf 0 (holding 5 0 0 0) 0 16777215 ≡ record { block = holding 5 0 0 16777215; taken = 1 })
     -- P5 counter 16777215, v 1: 0, bit
-    × (frontOf 0 (holding 5 0 0 16777215) 0 1 ≡ record { block = holding 5 1 0 0; taken = 1 })
+    × (frontOf 0 (holding 5 0 0 16777215) 0 1 ≡ record { block = holding 5 1 0 0; taken = 2 })
     -- P6 F3 on 5: 16777210
     × (commandOf (holding 1 0 0 5) 0 3 0 ≡ answer (holding 1 0 0 5) 1 1 16777210)
     -- P7 F21 on 15, W 5: 10
@@ -52,8 +52,8 @@ Bench =
     -- P8 status 1, mask 0: F8 Q = 0, F27 Q = 1
     × (commandOf (holding 1 1 0 0) 0 8 0 ≡ answer (holding 1 1 0 0) 1 0 0)
     × (commandOf (holding 1 1 0 0) 0 27 0 ≡ answer (holding 1 1 0 0) 1 1 0)
-    -- P9 seventeenth buffer word: not taken, bit 1
-    × (frontOf 0 (full 1) 0 9 ≡ record { block = full 3; taken = 0 })
+    -- P9 seventeenth buffer word: not taken, bit 1; its digit is 3
+    × (frontOf 0 (full 1) 0 9 ≡ record { block = full 3; taken = 3 })
     -- P10 scan of one r = 16 scaler: limit 16 ends 1, limit 17 ends 2, 16 cycles each
     × (transferOf (scanOf (withModule emptyCrate scaler) 1 0 0 1 16) ≡ record { end = 1; words = 16; cycles = 16 })
     × (transferOf (scanOf (withModule emptyCrate scaler) 1 0 0 1 17) ≡ record { end = 2; words = 16; cycles = 16 })

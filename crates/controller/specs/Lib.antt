@@ -6,3 +6,4 @@ pub mod Placing
 pub mod Finished
 pub mod Scans
 pub mod NotAccepted
+pub mod Fronts

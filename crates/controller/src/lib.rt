@@ -22,7 +22,7 @@ use transfer::Transfer;
 pub enum Answer {
     // A command: X, Q and R.
     Replied(Reply),
-    // A front event: 1 where it is taken, else 0.
+    // A front event: 0 not taken, 1 taken, 2 taken and a status bit went from 0 to 1, 3 the word was lost in a full buffer memory.
     Taken(u32),
     // Z, C and I.
     Done,

@@ -16,7 +16,7 @@ replyOf m n a f w = commandOf (blockOf m n) a f w .reply
 unfoldable pub afterCommand : List ℕ → (n a f w : ℕ) → List ℕ
 afterCommand m n a f w = withBlock m n (commandOf (blockOf m n) a f w .block)
 
--- a front event at station N, under the crate's Inhibit: 1 where it is taken, else 0
+-- a front event at station N, under the crate's Inhibit: its digit (station/specs/Front)
 unfoldable pub takenOf : List ℕ → (n a v : ℕ) → ℕ
 takenOf m n a v = frontOf (inhibitOf m) (blockOf m n) a v .taken
 

@@ -40,7 +40,7 @@ pub fn cycle(memory: &mut [u32], n: u32, a: u32, f: u32) -> Reply
     station::cycle(&mut memory[from..to], a, f)
 }
 
-// One front event at station n: 1 where it is taken, else 0.
+// One front event at station n: 0 not taken, 1 taken, 2 taken and a status bit went from 0 to 1, 3 the word was lost in a full buffer memory.
 pub fn front_event(memory: &mut [u32], n: u32, a: u32, v: u32) -> u32
     requires { ⌜ FitCrate (now memory) ⌝ }
     requires { ⌜ (1 ≤ n) × (n ≤ 23) × (a ≤ 15) × (v ≤ 16777215) ⌝ }

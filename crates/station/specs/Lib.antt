@@ -10,3 +10,4 @@ pub mod Control
 pub mod Kept
 pub mod Answered
 pub mod Held
+pub mod Digit

@@ -1,4 +1,4 @@
--- `store` meets its contract: its test is the definition's, and on each side the stores are the definition's.
+-- `store` meets its contract: its test is the definition's, on each side the stores are, and the digit is made of the status before and after.
 use mathlib.Core.Path.{ap, _∙_}
 use borrow.Author.Tests.{lt-ltb, le-ltb}
 use borrow.Author.Needs.{needs}
@@ -12,6 +12,9 @@ slice-read-head c = search needs
 
 slice-read-fill : tie.Need-slice-read-fill
 slice-read-fill c = search needs
+
+status-requires : tie.Need-status-requires
+status-requires c κs = search needs
 
 set-status-bit-requires : tie.Need-set-status-bit-requires
 set-status-bit-requires c κs = search needs
@@ -47,12 +50,20 @@ slice-write-b-2 c = search needs
 set-status-bit-requires-2 : tie.Need-set-status-bit-requires-2
 set-status-bit-requires-2 c κs = search needs
 
+status-requires-2 : tie.Need-status-requires-2
+status-requires-2 c κs = simp (c .before .before .before .set-status-bit2 .ensures, length-set) (c .before .before .before .before .before .before .before .before .before .before .before .pre .long)
+
+digit-requires : tie.Need-digit-requires
+digit-requires c κs = search needs
+
 same-length-2 : tie.Need-same-length-2
-same-length-2 c = ap length (c .before .before .set-status-bit2 .ensures) ∙ simp length-set
+same-length-2 c = ap length (c .before .before .before .before .before .set-status-bit2 .ensures) ∙ simp length-set
 
 returns-2 : tie.Need-returns-2
 unfolding storedOf
-returns-2 c = simp (lt-ltb _ _ (c .before .before .before .before .if1 .left), (c .before .before .set-status-bit2 .ensures))
+returns-2 c =
+    let x = c .before .before .before .before .before in
+    simp (lt-ltb _ _ (x .before .before .if1 .left), x .set-status-bit2 .ensures, c .digit .ensures, c .before .status2 .ensures, x .before .before .before .status .ensures)
 
 pub store-spec : {M : Type 1} → statement M
 store-spec =
@@ -60,6 +71,7 @@ store-spec =
     (tie.spec
     slice-read-head
     slice-read-fill
+    status-requires
     set-status-bit-requires
     same-length
     returns
@@ -71,5 +83,7 @@ store-spec =
     add-b-2
     slice-write-b-2
     set-status-bit-requires-2
+    status-requires-2
+    digit-requires
     same-length-2
     returns-2)
