@@ -49,14 +49,17 @@ module _ (m : List ℕ) (n a v : ℕ) (b : List ℕ) (d : Did m (Front n a v) b)
   unfolding takenOf
   told =
       let p = digit-where (inhibitOf m) (blockOf m n) a v sent in
-      let r = two-where-raised (inhibitOf m) (blockOf m n) a v sent .0 in (
+      let r = two-where-raised (inhibitOf m) (blockOf m n) a v sent in
+      let here : Raised (blockOf m n) (blockOf (leaves m (order (Good (Front n a v)) b)) n) → Raised (blockOf m n) (frontOf (inhibitOf m) (blockOf m n) a v .block) =
+      subst (Raised (blockOf m n)) left in (
         p .0,
         p .1,
         p .2,
         (
-          λ x. let y = r .0 x in (y .0, subst (Raised (blockOf m n)) (sym left) (y .1)),
-          λ x. r .1 (x .0, subst (Raised (blockOf m n)) left (x .1)),
+          λ x. let y = r .0 .0 x in (y .0, subst (Raised (blockOf m n)) (sym left) (y .1)),
+          λ x. r .0 .1 (x .0, here (x .1)),
         ),
+        λ l x. r .1 l (here x),
       )
 
 pub front-told : FrontTold

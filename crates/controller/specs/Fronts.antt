@@ -10,13 +10,14 @@ use Rattle.controller.specs.declared.Answer.the-variants.{Taken}
 use Rattle.controller.specs.Steps.{order, gives, leaves}
 
 -- an event at N, A of the crate m left the crate m′ and gave the digit d: 1 or 2 exactly where it is taken, 3 exactly where its word is lost; 2 exactly where
--- it is taken and some source of station N has its status bit 0 in m and 1 in m′
+-- it is taken and some source of station N has its status bit 0 in m and 1 in m′; with 0 and 1 no source has
 abbrev pub Told : (m m′ : List ℕ) (n a d : ℕ) → Type 0
 Told m m′ n a d =
     (d ≤ 3)
     × Exactly ((1 ≤ d) × (d ≤ 2)) (Takes (inhibitOf m) (blockOf m n) a)
     × Exactly (d ≡ 3) (Loses (inhibitOf m) (blockOf m n) a)
     × Exactly (d ≡ 2) (Takes (inhibitOf m) (blockOf m n) a × Raised (blockOf m n) (blockOf m′ n))
+    × (d ≤ 1 → Raised (blockOf m n) (blockOf m′ n) → ⊥)
 
 -- EVERY FRONT EVENT THAT IS NOT REFUSED
 abbrev pub FrontTold : Type 0
