@@ -1,6 +1,6 @@
 /* pagontxu.h: a rehearsal of a CAMAC crate, for programs in C, Fortran or Python.
  *
- * The rules are those of document 01, "The CAMAC rehearsal crate", and of document 02, requests L1 to L4; docs/RULES.md has them, numbered. Each function is
+ * The rules are those of document 01, "The CAMAC rehearsal crate", and of document 02, requests L1 to L5; docs/RULES.md has them, numbered. Each function is
  * proved to return and to leave what its definition in crates/capi/specs/Calls.antt says, for any contents and any lengths of the arrays that it is lent.
  *
  * Build the archive with `rt staticlib capi` and link target/staticlib/libcapi.a (x86-64 Linux). The library keeps no state, allocates nothing

@@ -6,3 +6,4 @@ pub mod FrontLaws
 pub mod ControlLaws
 pub mod AnswerLaws
 pub mod HeldLaws
+pub mod ClassLaws

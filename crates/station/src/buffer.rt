@@ -1,11 +1,10 @@
-// The Group 1 commands at a buffer memory: accepted at A0 alone, and about its oldest word, which stands at head.
+// The Group 1 commands at a buffer memory, whose class has A0 alone. They are about its oldest word, which stands at head.
 ghost use mathlib.Core.Path.{_≡_};
 ghost use Prim.Native.Nat.{_≤_};
 ghost use Rattle.station.specs.Block.{FitBlock, fillOf};
 ghost use Rattle.station.specs.Outcome.{Outcome};
 ghost use Rattle.station.specs.Buffer.{bufferReadOf, bufferReadComplementOf, withoutOldest, bufferReadAndClearOf, bufferClearOf};
 use crate::DONE;
-use crate::NOT_ACCEPTED;
 use crate::Reply;
 use crate::block::FILL;
 use crate::block::HEAD;
@@ -20,13 +19,10 @@ use word24::word::without_bit;
 const NO_WORD: Reply = Reply { x: 1, q: 0, r: 0 };
 
 // F0: the oldest word.
-pub fn read(b: &[u32], a: u32) -> Reply
+pub fn read(b: &[u32]) -> Reply
     requires { ⌜ FitBlock (now b) ⌝ }
-    ensures { λ r. ⌜ bufferReadOf (now (b .entry)) a ≡ record { block = now (b .entry); reply = r } ⌝ }
+    ensures { λ r. ⌜ bufferReadOf (now (b .entry)) 0 ≡ record { block = now (b .entry); reply = r } ⌝ }
 {
-    if a != 0 {
-        return NOT_ACCEPTED;
-    }
     if b[FILL] == 0 {
         return NO_WORD;
     }
@@ -39,13 +35,10 @@ pub fn read(b: &[u32], a: u32) -> Reply
 }
 
 // F3: the complement of the oldest word.
-pub fn read_complement(b: &[u32], a: u32) -> Reply
+pub fn read_complement(b: &[u32]) -> Reply
     requires { ⌜ FitBlock (now b) ⌝ }
-    ensures { λ r. ⌜ bufferReadComplementOf (now (b .entry)) a ≡ record { block = now (b .entry); reply = r } ⌝ }
+    ensures { λ r. ⌜ bufferReadComplementOf (now (b .entry)) 0 ≡ record { block = now (b .entry); reply = r } ⌝ }
 {
-    if a != 0 {
-        return NOT_ACCEPTED;
-    }
     if b[FILL] == 0 {
         return NO_WORD;
     }
@@ -74,13 +67,10 @@ fn drop_oldest(b: &mut [u32])
 }
 
 // F2: the oldest word, which is taken out.
-pub fn read_and_clear(b: &mut [u32], a: u32) -> Reply
+pub fn read_and_clear(b: &mut [u32]) -> Reply
     requires { ⌜ FitBlock (now b) ⌝ }
-    ensures { λ r. ⌜ bufferReadAndClearOf (now (b .entry)) a ≡ record { block = now (b .exit); reply = r } ⌝ }
+    ensures { λ r. ⌜ bufferReadAndClearOf (now (b .entry)) 0 ≡ record { block = now (b .exit); reply = r } ⌝ }
 {
-    if a != 0 {
-        return NOT_ACCEPTED;
-    }
     if b[FILL] == 0 {
         return NO_WORD;
     }
@@ -95,13 +85,10 @@ pub fn read_and_clear(b: &mut [u32], a: u32) -> Reply
 }
 
 // F9: the memory is emptied, and status bit 0 cleared.
-pub fn clear(b: &mut [u32], a: u32) -> Reply
+pub fn clear(b: &mut [u32]) -> Reply
     requires { ⌜ FitBlock (now b) ⌝ }
-    ensures { λ r. ⌜ bufferClearOf (now (b .entry)) a ≡ record { block = now (b .exit); reply = r } ⌝ }
+    ensures { λ r. ⌜ bufferClearOf (now (b .entry)) 0 ≡ record { block = now (b .exit); reply = r } ⌝ }
 {
-    if a != 0 {
-        return NOT_ACCEPTED;
-    }
     let status = b[STATUS];
     let mask = b[MASK];
     zero_module(b, without_bit(status, 0), mask);

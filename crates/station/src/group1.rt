@@ -1,21 +1,19 @@
-// Group 1 commands: the registers, at A below r. Of a buffer memory F0, F2, F3 and F9 have rules of their own (module buffer).
+// Group 1 commands: the registers. Each is called where its class has A, and so below r. Of a buffer memory F0, F2, F3 and F9 have rules of their own (module buffer).
 ghost use mathlib.Core.Path.{_≡_};
+ghost use mathlib.Core.Bool.{true};
+ghost use mathlib.Core.List.{[], _∷_};
 ghost use Prim.Native.Nat.{_<_};
-ghost use Rattle.station.specs.Block.{FitBlock};
+ghost use Rattle.kinds.specs.Cases.{isOneOf};
+ghost use Rattle.station.specs.Block.{FitBlock, kindOf, countOf};
 ghost use Rattle.station.specs.Outcome.{Outcome};
 ghost use Rattle.station.specs.Group1.{readOf, readAndClearOf, readComplementOf, clearOf, overwriteOf, selectiveSetOf, selectiveClearOf, addedOf, executeOf};
 use crate::DONE;
-use crate::NOT_ACCEPTED;
 use crate::Reply;
-use crate::block::COUNT;
 use crate::block::KIND;
 use crate::block::REGISTERS;
 use crate::block::set_status_bit;
 use crate::buffer;
 use kinds::BUFFER_MEMORY;
-use kinds::OUTPUT_REGISTER;
-use kinds::SCALER;
-use kinds::UP_DOWN_COUNTER;
 use word24::word::add24;
 use word24::word::clear_bits;
 use word24::word::complement24;
@@ -23,14 +21,11 @@ use word24::word::set_bits;
 
 // F0.
 pub fn read(b: &[u32], a: u32) -> Reply
-    requires { ⌜ FitBlock (now b) ⌝ ∗ ⌜ a < 16 ⌝ }
+    requires { ⌜ FitBlock (now b) ⌝ ∗ ⌜ a < 16 ⌝ ∗ ⌜ a < countOf (now b) ⌝ }
     ensures { λ r. ⌜ readOf (now (b .entry)) a ≡ record { block = now (b .entry); reply = r } ⌝ }
 {
     if b[KIND] == BUFFER_MEMORY {
-        return buffer::read(b, a);
-    }
-    if b[COUNT] <= a {
-        return NOT_ACCEPTED;
+        return buffer::read(b);
     }
     Reply {
         x: 1,
@@ -41,14 +36,11 @@ pub fn read(b: &[u32], a: u32) -> Reply
 
 // F2.
 pub fn read_and_clear(b: &mut [u32], a: u32) -> Reply
-    requires { ⌜ FitBlock (now b) ⌝ ∗ ⌜ a < 16 ⌝ }
+    requires { ⌜ FitBlock (now b) ⌝ ∗ ⌜ a < 16 ⌝ ∗ ⌜ a < countOf (now b) ⌝ }
     ensures { λ r. ⌜ readAndClearOf (now (b .entry)) a ≡ record { block = now (b .exit); reply = r } ⌝ }
 {
     if b[KIND] == BUFFER_MEMORY {
-        return buffer::read_and_clear(b, a);
-    }
-    if b[COUNT] <= a {
-        return NOT_ACCEPTED;
+        return buffer::read_and_clear(b);
     }
     let i = REGISTERS + a as usize;
     let word = b[i];
@@ -62,14 +54,11 @@ pub fn read_and_clear(b: &mut [u32], a: u32) -> Reply
 
 // F3.
 pub fn read_complement(b: &[u32], a: u32) -> Reply
-    requires { ⌜ FitBlock (now b) ⌝ ∗ ⌜ a < 16 ⌝ }
+    requires { ⌜ FitBlock (now b) ⌝ ∗ ⌜ a < 16 ⌝ ∗ ⌜ a < countOf (now b) ⌝ }
     ensures { λ r. ⌜ readComplementOf (now (b .entry)) a ≡ record { block = now (b .entry); reply = r } ⌝ }
 {
     if b[KIND] == BUFFER_MEMORY {
-        return buffer::read_complement(b, a);
-    }
-    if b[COUNT] <= a {
-        return NOT_ACCEPTED;
+        return buffer::read_complement(b);
     }
     Reply {
         x: 1,
@@ -80,14 +69,11 @@ pub fn read_complement(b: &[u32], a: u32) -> Reply
 
 // F9.
 pub fn clear(b: &mut [u32], a: u32) -> Reply
-    requires { ⌜ FitBlock (now b) ⌝ ∗ ⌜ a < 16 ⌝ }
+    requires { ⌜ FitBlock (now b) ⌝ ∗ ⌜ a < 16 ⌝ ∗ ⌜ a < countOf (now b) ⌝ }
     ensures { λ r. ⌜ clearOf (now (b .entry)) a ≡ record { block = now (b .exit); reply = r } ⌝ }
 {
     if b[KIND] == BUFFER_MEMORY {
-        return buffer::clear(b, a);
-    }
-    if b[COUNT] <= a {
-        return NOT_ACCEPTED;
+        return buffer::clear(b);
     }
     b[REGISTERS + a as usize] = 0;
     DONE
@@ -95,33 +81,18 @@ pub fn clear(b: &mut [u32], a: u32) -> Reply
 
 // F16: kinds 2 and 5.
 pub fn overwrite(b: &mut [u32], a: u32, w: u32) -> Reply
-    requires { ⌜ FitBlock (now b) ⌝ ∗ ⌜ a < 16 ⌝ }
+    requires { ⌜ FitBlock (now b) ⌝ ∗ ⌜ a < 16 ⌝ ∗ ⌜ a < countOf (now b) ⌝ ∗ ⌜ isOneOf (kindOf (now b)) (2 ∷ 5 ∷ []) ≡ true ⌝ }
     ensures { λ r. ⌜ overwriteOf (now (b .entry)) a w ≡ record { block = now (b .exit); reply = r } ⌝ }
 {
-    let kind = b[KIND];
-    if b[COUNT] <= a {
-        return NOT_ACCEPTED;
-    }
-    match kind {
-        OUTPUT_REGISTER | UP_DOWN_COUNTER => {
-            b[REGISTERS + a as usize] = w;
-            DONE
-        }
-        _ => NOT_ACCEPTED,
-    }
+    b[REGISTERS + a as usize] = w;
+    DONE
 }
 
 // F18: kind 2.
 pub fn selective_set(b: &mut [u32], a: u32, w: u32) -> Reply
-    requires { ⌜ FitBlock (now b) ⌝ ∗ ⌜ a < 16 ⌝ }
+    requires { ⌜ FitBlock (now b) ⌝ ∗ ⌜ a < 16 ⌝ ∗ ⌜ a < countOf (now b) ⌝ ∗ ⌜ isOneOf (kindOf (now b)) (2 ∷ []) ≡ true ⌝ }
     ensures { λ r. ⌜ selectiveSetOf (now (b .entry)) a w ≡ record { block = now (b .exit); reply = r } ⌝ }
 {
-    if b[KIND] != OUTPUT_REGISTER {
-        return NOT_ACCEPTED;
-    }
-    if b[COUNT] <= a {
-        return NOT_ACCEPTED;
-    }
     let i = REGISTERS + a as usize;
     let old = b[i];
     b[i] = set_bits(old, w);
@@ -130,15 +101,9 @@ pub fn selective_set(b: &mut [u32], a: u32, w: u32) -> Reply
 
 // F21: kind 2.
 pub fn selective_clear(b: &mut [u32], a: u32, w: u32) -> Reply
-    requires { ⌜ FitBlock (now b) ⌝ ∗ ⌜ a < 16 ⌝ }
+    requires { ⌜ FitBlock (now b) ⌝ ∗ ⌜ a < 16 ⌝ ∗ ⌜ a < countOf (now b) ⌝ ∗ ⌜ isOneOf (kindOf (now b)) (2 ∷ []) ≡ true ⌝ }
     ensures { λ r. ⌜ selectiveClearOf (now (b .entry)) a w ≡ record { block = now (b .exit); reply = r } ⌝ }
 {
-    if b[KIND] != OUTPUT_REGISTER {
-        return NOT_ACCEPTED;
-    }
-    if b[COUNT] <= a {
-        return NOT_ACCEPTED;
-    }
     let i = REGISTERS + a as usize;
     let old = b[i];
     b[i] = clear_bits(old, w);
@@ -160,15 +125,9 @@ pub fn add(b: &mut [u32], a: u32, v: u32)
 
 // F25: kind 1.
 pub fn execute(b: &mut [u32], a: u32) -> Reply
-    requires { ⌜ FitBlock (now b) ⌝ ∗ ⌜ a < 16 ⌝ }
+    requires { ⌜ FitBlock (now b) ⌝ ∗ ⌜ a < 16 ⌝ ∗ ⌜ a < countOf (now b) ⌝ ∗ ⌜ isOneOf (kindOf (now b)) (1 ∷ []) ≡ true ⌝ }
     ensures { λ r. ⌜ executeOf (now (b .entry)) a ≡ record { block = now (b .exit); reply = r } ⌝ }
 {
-    if b[KIND] != SCALER {
-        return NOT_ACCEPTED;
-    }
-    if b[COUNT] <= a {
-        return NOT_ACCEPTED;
-    }
     add(b, a, 1);
     DONE
 }

@@ -1,28 +1,23 @@
-// LAM commands: one source each, at A below s.
+// LAM commands: one source each. Each is called where its class has A, and so below s.
 ghost use mathlib.Core.Path.{_≡_};
 ghost use Prim.Native.Nat.{_<_};
 ghost use Rattle.word24.specs.Word.{bitOf};
-ghost use Rattle.station.specs.Block.{FitBlock};
+ghost use Rattle.station.specs.Block.{FitBlock, sourcesOf};
 ghost use Rattle.station.specs.Outcome.{Outcome, tells};
 ghost use Rattle.station.specs.Lam.{lam, testLamOf, testStatusOf, clearLamOf, disableOf, enableOf};
 use crate::DONE;
-use crate::NOT_ACCEPTED;
 use crate::Reply;
 use crate::block::MASK;
 use crate::block::STATUS;
-use crate::block::sources;
 use word24::word::bit;
 use word24::word::with_bit;
 use word24::word::without_bit;
 
 // Q is bit a of v.
 fn test(b: &[u32], a: u32, v: u32) -> Reply
-    requires { ⌜ FitBlock (now b) ⌝ ∗ ⌜ a < 16 ⌝ }
+    requires { ⌜ FitBlock (now b) ⌝ ∗ ⌜ a < 16 ⌝ ∗ ⌜ a < sourcesOf (now b) ⌝ }
     ensures { λ r. ⌜ lam (now (b .entry)) a (tells (now (b .entry)) (bitOf a v)) ≡ record { block = now (b .entry); reply = r } ⌝ }
 {
-    if sources(b) <= a {
-        return NOT_ACCEPTED;
-    }
     Reply {
         x: 1,
         q: bit(v, a),
@@ -32,7 +27,7 @@ fn test(b: &[u32], a: u32, v: u32) -> Reply
 
 // F8.
 pub fn test_lam(b: &[u32], a: u32) -> Reply
-    requires { ⌜ FitBlock (now b) ⌝ ∗ ⌜ a < 16 ⌝ }
+    requires { ⌜ FitBlock (now b) ⌝ ∗ ⌜ a < 16 ⌝ ∗ ⌜ a < sourcesOf (now b) ⌝ }
     ensures { λ r. ⌜ testLamOf (now (b .entry)) a ≡ record { block = now (b .entry); reply = r } ⌝ }
 {
     test(b, a, b[STATUS] & b[MASK])
@@ -40,7 +35,7 @@ pub fn test_lam(b: &[u32], a: u32) -> Reply
 
 // F27.
 pub fn test_status(b: &[u32], a: u32) -> Reply
-    requires { ⌜ FitBlock (now b) ⌝ ∗ ⌜ a < 16 ⌝ }
+    requires { ⌜ FitBlock (now b) ⌝ ∗ ⌜ a < 16 ⌝ ∗ ⌜ a < sourcesOf (now b) ⌝ }
     ensures { λ r. ⌜ testStatusOf (now (b .entry)) a ≡ record { block = now (b .entry); reply = r } ⌝ }
 {
     test(b, a, b[STATUS])
@@ -48,12 +43,9 @@ pub fn test_status(b: &[u32], a: u32) -> Reply
 
 // F10.
 pub fn clear_lam(b: &mut [u32], a: u32) -> Reply
-    requires { ⌜ FitBlock (now b) ⌝ ∗ ⌜ a < 16 ⌝ }
+    requires { ⌜ FitBlock (now b) ⌝ ∗ ⌜ a < 16 ⌝ ∗ ⌜ a < sourcesOf (now b) ⌝ }
     ensures { λ r. ⌜ clearLamOf (now (b .entry)) a ≡ record { block = now (b .exit); reply = r } ⌝ }
 {
-    if sources(b) <= a {
-        return NOT_ACCEPTED;
-    }
     let status = b[STATUS];
     b[STATUS] = without_bit(status, a);
     DONE
@@ -61,12 +53,9 @@ pub fn clear_lam(b: &mut [u32], a: u32) -> Reply
 
 // F24.
 pub fn disable(b: &mut [u32], a: u32) -> Reply
-    requires { ⌜ FitBlock (now b) ⌝ ∗ ⌜ a < 16 ⌝ }
+    requires { ⌜ FitBlock (now b) ⌝ ∗ ⌜ a < 16 ⌝ ∗ ⌜ a < sourcesOf (now b) ⌝ }
     ensures { λ r. ⌜ disableOf (now (b .entry)) a ≡ record { block = now (b .exit); reply = r } ⌝ }
 {
-    if sources(b) <= a {
-        return NOT_ACCEPTED;
-    }
     let mask = b[MASK];
     b[MASK] = without_bit(mask, a);
     DONE
@@ -74,12 +63,9 @@ pub fn disable(b: &mut [u32], a: u32) -> Reply
 
 // F26.
 pub fn enable(b: &mut [u32], a: u32) -> Reply
-    requires { ⌜ FitBlock (now b) ⌝ ∗ ⌜ a < 16 ⌝ }
+    requires { ⌜ FitBlock (now b) ⌝ ∗ ⌜ a < 16 ⌝ ∗ ⌜ a < sourcesOf (now b) ⌝ }
     ensures { λ r. ⌜ enableOf (now (b .entry)) a ≡ record { block = now (b .exit); reply = r } ⌝ }
 {
-    if sources(b) <= a {
-        return NOT_ACCEPTED;
-    }
     let mask = b[MASK];
     b[MASK] = with_bit(mask, a);
     DONE

@@ -1,7 +1,8 @@
 // One station of the crate: the 32 functions, over the station's lent block of 32 words.
 ghost use mathlib.Core.Path.{_≡_};
 ghost use Prim.Native.Nat.{_<_, _^_};
-ghost use Rattle.station.specs.Block.{FitBlock};
+ghost use Rattle.acceptance.specs.Classes.{classOf, admits};
+ghost use Rattle.station.specs.Block.{FitBlock, kindOf, countOf, sourcesOf};
 ghost use Rattle.station.specs.Outcome.{Outcome};
 ghost use Rattle.station.specs.Command.{commandOf};
 
@@ -11,9 +12,11 @@ pub mod group1;
 pub mod group2;
 pub mod lam;
 
-use block::FILL;
+use acceptance::admits;
+use acceptance::class_of;
+use block::COUNT;
 use block::KIND;
-use kinds::BUFFER_MEMORY;
+use block::sources;
 
 // The answer to a command: Command Accepted, Response and read word.
 pub struct Reply {
@@ -28,11 +31,23 @@ pub const NOT_ACCEPTED: Reply = Reply { x: 0, q: 0, r: 0 };
 // Accepted, with nothing to read.
 pub const DONE: Reply = Reply { x: 1, q: 1, r: 0 };
 
+// Whether the station accepts a command: the class of its kind at function f has subaddress a. `command` asks it, and no other function decides it.
+fn accepts(b: &[u32], a: u32, f: u32) -> bool
+    requires { ⌜ FitBlock (now b) ⌝ ∗ ⌜ f < 32 ⌝ }
+    ensures { λ t. ⌜ t ≡ admits (classOf (kindOf (now (b .entry))) f) a (countOf (now (b .entry))) (sourcesOf (now (b .entry))) ⌝ }
+{
+    let class = class_of(b[KIND], f);
+    admits(class, a, b[COUNT], sources(b))
+}
+
 // One command to the station: subaddress a, function f, write word w.
 pub fn command(b: &mut [u32], a: u32, f: u32, w: u32) -> Reply
     requires { ⌜ FitBlock (now b) ⌝ ∗ ⌜ a < 16 ⌝ ∗ ⌜ f < 32 ⌝ ∗ ⌜ w < 2 ^ 24 ⌝ }
     ensures { λ r. ⌜ commandOf (now (b .entry)) a f w ≡ record { block = now (b .exit); reply = r } ⌝ }
 {
+    if !accepts(b, a, f) {
+        return NOT_ACCEPTED;
+    }
     match f {
         0 => group1::read(b, a),
         1 => group2::read(b, a),
@@ -43,9 +58,9 @@ pub fn command(b: &mut [u32], a: u32, f: u32, w: u32) -> Reply
         10 => lam::clear_lam(b, a),
         11 => group2::clear(b, a),
         16 => group1::overwrite(b, a, w),
-        17 => group2::overwrite(b, a, w),
+        17 => group2::overwrite(b, w),
         18 => group1::selective_set(b, a, w),
-        19 => group2::selective_set(b, a, w),
+        19 => group2::selective_set(b, w),
         21 => group1::selective_clear(b, a, w),
         23 => group2::selective_clear(b, a, w),
         24 => lam::disable(b, a),
@@ -57,23 +72,10 @@ pub fn command(b: &mut [u32], a: u32, f: u32, w: u32) -> Reply
     }
 }
 
-// One cycle of a block transfer: a command with no word to write. What long transfers are made of, registers that are read and an empty buffer memory that is
-// asked again, is tried first, and is so little that the compiler puts it into their loops.
+// One cycle of a block transfer: a command with no word to write.
 pub fn cycle(b: &mut [u32], a: u32, f: u32) -> Reply
     requires { ⌜ FitBlock (now b) ⌝ ∗ ⌜ a < 16 ⌝ ∗ ⌜ f < 32 ⌝ }
     ensures { λ r. ⌜ commandOf (now (b .entry)) a f 0 ≡ record { block = now (b .exit); reply = r } ⌝ }
 {
-    if b[KIND] != BUFFER_MEMORY {
-        if f == 0 {
-            return group1::read(b, a);
-        }
-        if f == 3 {
-            return group1::read_complement(b, a);
-        }
-    } else if b[FILL] == 0 {
-        if f == 2 {
-            return buffer::read_and_clear(b, a);
-        }
-    }
     command(b, a, f, 0)
 }

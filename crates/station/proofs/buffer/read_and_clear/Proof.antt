@@ -5,16 +5,12 @@ use Rattle.station.specs.Buffer.{bufferReadAndClearOf}
 use Rattle.station.proofs.buffer.read_and_clear.Statement.{statement}
 use Rattle.station.proofs.buffer.read_and_clear.Tie as tie
 
+slice-read-if1 : tie.Need-slice-read-if1
+slice-read-if1 c = search needs
+
 returns : tie.Need-returns
 unfolding bufferReadAndClearOf
-returns c = simp (ne-eqb _ _ (c .if1 .taken))
-
-slice-read-if2 : tie.Need-slice-read-if2
-slice-read-if2 c = search needs
-
-returns-2 : tie.Need-returns-2
-unfolding bufferReadAndClearOf
-returns-2 c = simp (eq-eqb _ _ (c .before .before .if1 .left), eq-eqb _ _ (c .if2 .taken))
+returns c = simp (eq-eqb _ _ (c .if1 .taken))
 
 slice-read-i : tie.Need-slice-read-i
 slice-read-i c = search needs
@@ -37,21 +33,16 @@ drop-oldest-requires c κs = search needs
 same-length : tie.Need-same-length
 same-length c = search needs
 
-returns-3 : tie.Need-returns-3
+returns-2 : tie.Need-returns-2
 unfolding bufferReadAndClearOf
-returns-3 c = simp (
-  eq-eqb _ _ (c .before .before .before .before .before .before .before .before .if1 .left),
-  ne-eqb _ _ (c .before .before .before .before .before .before .if2 .left),
-  (c .before .before .drop-oldest .ensures),
-)
+returns-2 c = simp (ne-eqb _ _ (c .before .before .before .before .before .before .if1 .left), (c .before .before .drop-oldest .ensures))
 
 pub read-and-clear-spec : {M : Type 1} → statement M
 read-and-clear-spec =
     tie.close
     (tie.spec
+    slice-read-if1
     returns
-    slice-read-if2
-    returns-2
     slice-read-i
     cast-i
     add-i
@@ -59,4 +50,4 @@ read-and-clear-spec =
     slice-read-word
     drop-oldest-requires
     same-length
-    returns-3)
+    returns-2)

@@ -1,8 +1,8 @@
 -- `read_and_clear` meets its contract: a buffer memory has its own rule; of another module the register is read, then zeroed.
-use borrow.Author.Tests.{eq-eqb, ne-eqb, lt-ltb, le-ltb}
+use borrow.Author.Tests.{eq-eqb, ne-eqb, lt-ltb}
 use borrow.Author.Needs.{needs}
+use Rattle.station.proofs.ClassLaws.{buffer-first}
 use Rattle.station.proofs.KindTable.{register-kind}
-use Rattle.kinds.proofs.TestLaws.{both-false}
 use Rattle.station.specs.Group1.{readAndClearOf}
 use Rattle.station.proofs.group1.read_and_clear.Statement.{statement}
 use Rattle.station.proofs.group1.read_and_clear.Tie as tie
@@ -18,14 +18,10 @@ same-length c = search needs
 
 returns : tie.Need-returns
 unfolding readAndClearOf
-returns c = simp (eq-eqb _ _ (c .before .before .before .before .if1 .taken)) (c .before .before .read-and-clear .ensures)
-
-slice-read-if2 : tie.Need-slice-read-if2
-slice-read-if2 c = search needs
-
-returns-2 : tie.Need-returns-2
-unfolding readAndClearOf
-returns-2 c = simp (ne-eqb _ _ (c .before .before .if1 .left), le-ltb _ _ (c .if2 .taken), both-false)
+returns c =
+    let e = c .before .before .before .before .before .before .before in
+    let buffer = c .before .before .before .before .if1 .taken in
+    simp (eq-eqb _ _ buffer) (rw (buffer-first _ _ (e .pre .0) buffer (e .pre .1 .1)) (c .before .before .read-and-clear .ensures))
 
 add-i : tie.Need-add-i
 add-i c = search needs
@@ -45,13 +41,12 @@ slice-write-b c = search needs
 same-length-2 : tie.Need-same-length-2
 same-length-2 c = search needs
 
-returns-3 : tie.Need-returns-3
+returns-2 : tie.Need-returns-2
 unfolding readAndClearOf
-returns-3 c = simp (
-  register-kind _ _ (c .before .before .before .before .before .before .pre .0) (c .before .before .before .if1 .left)
-      (c .before .if2 .left),
-  ne-eqb _ _ (c .before .before .before .if1 .left),
-  lt-ltb _ _ (c .before .if2 .left),
+returns-2 c = simp (
+  register-kind _ _ (c .before .before .before .before .pre .0) (c .before .if1 .left) (c .before .before .before .before .pre .1 .1),
+  ne-eqb _ _ (c .before .if1 .left),
+  lt-ltb _ _ (c .before .before .before .before .pre .1 .1),
 )
 
 pub read-and-clear-spec : {M : Type 1} → statement M
@@ -62,12 +57,10 @@ read-and-clear-spec =
     read-and-clear-requires
     same-length
     returns
-    slice-read-if2
-    returns-2
     add-i
     mul-word
     slice-read-word
     mul-b
     slice-write-b
     same-length-2
-    returns-3)
+    returns-2)

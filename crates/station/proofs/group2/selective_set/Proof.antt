@@ -1,28 +1,12 @@
--- `selective_set` meets its contract: where there are sources and A is 13, the mask gets the bits of w below s besides its own.
-use mathlib.Core.Path.{sym, _∙_}
-use borrow.Author.Tests.{ne-eqb}
+-- `selective_set` meets its contract: there are sources, and the mask gets the bits of w below s besides its own.
+use borrow.Author.Tests.{lt-ltb}
 use borrow.Author.Needs.{needs}
-use Rattle.kinds.proofs.TestLaws.{positive}
 use Rattle.station.specs.Group2.{group2, selectiveSetGroup2Of}
 use Rattle.station.proofs.group2.selective_set.Statement.{statement}
 use Rattle.station.proofs.group2.selective_set.Tie as tie
 
 sources-requires : tie.Need-sources-requires
 sources-requires c κs = search needs
-
-same-length : tie.Need-same-length
-same-length c = search needs
-
-returns : tie.Need-returns
-unfolding selectiveSetGroup2Of group2
-returns c = simp (sym (c .before .sources .ensures) ∙ (c .if1 .taken))
-
-same-length-2 : tie.Need-same-length-2
-same-length-2 c = search needs
-
-returns-2 : tie.Need-returns-2
-unfolding selectiveSetGroup2Of group2
-returns-2 c = simp (positive _ _ (c .before .before .sources .ensures) (c .before .if1 .left), ne-eqb _ _ (c .if2 .taken))
 
 slice-read-mask : tie.Need-slice-read-mask
 slice-read-mask c = search needs
@@ -36,18 +20,16 @@ set-bits-requires c κs = search needs
 slice-write-b : tie.Need-slice-write-b
 slice-write-b c = search needs
 
-same-length-3 : tie.Need-same-length-3
-same-length-3 c = search needs
+same-length : tie.Need-same-length
+same-length c = search needs
 
-returns-3 : tie.Need-returns-3
+returns : tie.Need-returns
 unfolding selectiveSetGroup2Of group2
-returns-3 c = simp (
-  positive _ _ (c .before .before .before .before .before .sources .ensures)
-      (c .before .before .before .before .if1 .left),
-  (c .before .before .before .if2 .left),
+returns c = simp (
+  lt-ltb _ _ (c .before .before .before .before .before .before .pre .1),
   (c .set-bits .ensures),
   (c .before .low-bits .ensures),
-  (c .before .before .before .before .before .sources .ensures),
+  (c .before .before .before .sources .ensures),
 )
 
 pub selective-set-spec : {M : Type 1} → statement M
@@ -55,13 +37,9 @@ selective-set-spec =
     tie.close
     (tie.spec
     sources-requires
-    same-length
-    returns
-    same-length-2
-    returns-2
     slice-read-mask
     low-bits-requires
     set-bits-requires
     slice-write-b
-    same-length-3
-    returns-3)
+    same-length
+    returns)

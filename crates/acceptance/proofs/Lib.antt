@@ -1,0 +1,3 @@
+pub mod Entries
+pub mod AdmitLaws
+pub mod RuleLaws

@@ -1,0 +1,2 @@
+-- The laws of `classes`.
+pub mod TextLaws
