@@ -24,14 +24,15 @@ BEGIN {
     meaning[5] = "overwide word: w or v is above 16777215, or v of I above 1"
     meaning[6] = "crossed range: `to` is below N or above 23"
     meaning[7] = "bad length: limit is outside 1 to 512, or tries outside 1 to 4096"
-    meaning[10] = "bad module: kind is outside 1 to 5, or r is not of its kind"
+    meaning[10] = "bad module: kind is outside 1 to 5, r is not of its kind, wide is not 1 or 2, or wide is 2 in 23"
     meaning[11] = "out of order: the station is not above that of the line before"
+    meaning[12] = "covered station: the module to its left is two stations wide"
 }
 
 $1 == "step" { row(run, "none of the ten forms") }
 
 $1 == "crate" {
-    row(lines("crate.txt"), "not n= kind= r=")
+    row(lines("crate.txt"), "not n= kind= r= wide=")
     print "crate.txt is refused at this line; nothing was run" | table
 }
 

@@ -1,10 +1,11 @@
 // Calls the library through its C functions on random arrays, and compares each call with the
 // crate of reference.rs: the number returned, and every word of the memory, answers and buffers.
 //   library SEED COUNT
-// makes COUNT calls, the same ones for the same seed, after some puts of lent words, Repeats, Stops and front events that were worked out by hand.
-// Ends with 0 when none differs, with 1 at the first that does, after printing it; a step by hand that differs is a
+// makes COUNT calls, the same ones for the same seed, after some that were worked out by hand: puts of lent words, Repeats and Stops, front events, crate
+// lines and steps in crates with modules two stations wide, and memories that are not fit.
+// Ends with 0 when none differs, with 1 at the first that does, after printing it; a call by hand that differs is a
 // panic; 2 means that the two numbers were not given.
-// What the calls have to do is written from document 01, requests L1, L3 and L4 of document 02, include/pagontxu.h and docs/DECISIONS.md.
+// What the calls have to do is written from document 01, requests L1, L3, L4 and L6 of document 02, include/pagontxu.h and docs/DECISIONS.md.
 
 #[allow(dead_code)]
 #[path = "reference.rs"]
@@ -14,6 +15,7 @@ use reference::{Answer, Crate, Kind, Module, Step, GARBLED, SHORT_BUFFER};
 use std::fmt::Debug;
 
 const UNFIT_CRATE: u32 = 9;
+const NUMBERS: usize = 13; // 0 and the twelve refusals
 const MEMORY: usize = 768;
 const BLOCK: usize = 32;
 const STEP: usize = 6;
@@ -164,16 +166,24 @@ fn call_library(call: &mut Call, arrays: &mut Arrays) -> u32 {
 
 // ---- the same by the reference ----
 
-// Whether a memory is fit, from 01's 'Crate memory'.
+// Whether a memory is fit, from 01's 'Crate memory' and L6.
 fn fit(memory: &[u32]) -> bool {
     memory.len() == MEMORY
         && memory[0] <= 1
         && memory[1..BLOCK].iter().all(|word| *word == 0)
         && memory[BLOCK..].chunks(BLOCK).all(fit_station)
+        && (1..=23).all(|n| memory[n * BLOCK + 7] == covers(&memory[(n - 1) * BLOCK..]) as u32)
+        && !covers(&memory[23 * BLOCK..])
+}
+
+// Whether the module of a block fills the next station too.
+fn covers(block: &[u32]) -> bool {
+    block[6] == 2
 }
 
 fn fit_station(block: &[u32]) -> bool {
     let (kind, r, status, mask, head, fill) = (block[0], block[1], block[2], block[3], block[4], block[5]);
+    let (wide, covered) = (block[6], block[7]);
     let registers = &block[16..];
     let right_r = match kind {
         0 => r == 0,
@@ -194,10 +204,12 @@ fn fit_station(block: &[u32]) -> bool {
     } else {
         head == 0 && fill == 0 && registers[r as usize..].iter().all(|word| *word == 0)
     };
+    let width = if kind == 0 { wide == 0 } else { (wide == 1 || wide == 2) && covered == 0 };
     places
+        && width
         && status >> s == 0
         && mask >> s == 0
-        && block[6..16].iter().all(|word| *word == 0)
+        && block[8..16].iter().all(|word| *word == 0)
         && registers.iter().all(|word| *word <= WORD_MAX)
 }
 
@@ -208,7 +220,7 @@ fn load(memory: &[u32]) -> Crate {
     for (n, block) in memory.chunks(BLOCK).enumerate().skip(1) {
         let kind = [Kind::Empty, Kind::Scaler, Kind::Output, Kind::Input, Kind::Buffer, Kind::Counter][block[0] as usize];
         let module = &mut model.stations[n];
-        *module = Module::new(kind, block[1]);
+        *module = Module::new(kind, block[1], block[6]);
         module.status = block[2];
         module.mask = block[3];
         module.head = block[4];
@@ -240,6 +252,8 @@ fn save(model: &Crate, memory: &mut [u32]) {
         block[3] = module.mask;
         block[4] = module.head;
         block[5] = module.words.len() as u32;
+        block[6] = module.wide;
+        block[7] = model.covered(n as u32) as u32;
         if module.kind == Kind::Buffer {
             for (place, word) in module.words.iter().enumerate() {
                 block[16 + (module.head as usize + place) % 16] = *word;
@@ -306,10 +320,9 @@ fn call_reference(call: &Call, arrays: &mut Arrays) -> u32 {
             if !fit {
                 return UNFIT_CRATE;
             }
-            match reference::crate_line(line.words(), *previous) {
-                Ok((n, module)) => {
-                    let mut model = load(memory);
-                    model.stations[n as usize] = module;
+            let mut model = load(memory);
+            match reference::crate_line(&mut model, line.words(), *previous) {
+                Ok(()) => {
                     save(&model, memory);
                     0
                 }
@@ -382,12 +395,14 @@ fn register_count(chance: &mut Chance, kind: u32) -> u32 {
     }
 }
 
-fn fill_station(chance: &mut Chance, block: &mut [u32], wide: bool) {
+// A module one station wide in an empty station.
+fn fill_station(chance: &mut Chance, block: &mut [u32], long: bool) {
     let kind = chance.pick(&[1, 2, 3, 4, 4, 5]);
-    let kind = if wide && kind == 4 { 5 } else { kind };
-    let r = if wide { 16 } else { register_count(chance, kind) };
+    let kind = if long && kind == 4 { 5 } else { kind };
+    let r = if long { 16 } else { register_count(chance, kind) };
     block[0] = kind;
     block[1] = r;
+    block[6] = 1;
     let s = match kind {
         2 => 0,
         4 => 2,
@@ -412,11 +427,19 @@ fn fill_station(chance: &mut Chance, block: &mut [u32], wide: bool) {
 fn fit_memory(chance: &mut Chance) -> Vec<u32> {
     let mut memory = vec![0; MEMORY];
     let density = chance.pick(&[0, 20, 60, 90, 90, 100]);
-    let wide = chance.percent(10); // all modules with sixteen registers, for long scans
+    let two_wide = chance.pick(&[0, 20, 20, 50, 100]);
+    let long = chance.percent(10); // all modules with sixteen registers, for long scans
     memory[0] = chance.percent(20) as u32;
-    for block in memory.chunks_mut(BLOCK).skip(1) {
-        if chance.percent(density) {
-            fill_station(chance, block, wide);
+    for n in 1..=23 {
+        let covered = covers(&memory[(n - 1) * BLOCK..]);
+        let block = &mut memory[n * BLOCK..(n + 1) * BLOCK];
+        if covered {
+            block[7] = 1;
+        } else if chance.percent(density) {
+            fill_station(chance, block, long);
+            if n < 23 && chance.percent(two_wide) {
+                block[6] = 2;
+            }
         }
     }
     memory
@@ -444,12 +467,48 @@ fn spoil(chance: &mut Chance, memory: &mut [u32]) {
     };
 }
 
-// The memory with one word spoilt, with another length, or wholly random.
+// Changes the width or the cover of a station, or both of two neighbours; once in a while the memory stays fit.
+fn spoil_widths(chance: &mut Chance, memory: &mut [u32]) {
+    let any = 1 + chance.below(23);
+    let n = chance.pick(&[1, 22, 23, any, any, any, any]);
+    let word = |n: usize, place: usize| n * BLOCK + place;
+    let covered = (0..23).map(|i| (n - 1 + i) % 23 + 1).find(|n| memory[word(*n, 7)] == 1);
+    match chance.below(8) {
+        0 => memory[word(n, 6)] = chance.pick(&[0, 1, 2, 3, 256, 257, 258, 1 << 31, 1 << 31 | 1, u32::MAX]),
+        1 => memory[word(n, 7)] = chance.pick(&[0, 1, 1, 2, 256, 257, 1 << 31, u32::MAX]),
+        2 => memory[word(n, 7)] ^= 1,
+        3 => memory[word(n, 8 + chance.below(8))] = chance.pick(&[1, 2, 16, 1 << 31]),
+        // two wide with its cover, whatever is in these two stations; in 23 it has no room for one
+        4 | 5 => {
+            memory[word(n, 6)] = 2;
+            if n < 23 {
+                memory[word(n + 1, 7)] = 1;
+            }
+        }
+        // the cover goes, with or without the width
+        6 => {
+            if let Some(n) = covered {
+                memory[word(n, 7)] = 0;
+                memory[word(n - 1, 6)] = chance.pick(&[0, 1, 2]);
+            }
+        }
+        // a module in a covered station, which stays covered
+        _ => {
+            if let Some(n) = covered {
+                fill_station(chance, &mut memory[n * BLOCK..(n + 1) * BLOCK], false);
+                memory[word(n, 6)] = chance.pick(&[0, 1, 1, 2]);
+            }
+        }
+    }
+}
+
+// The memory with one word spoilt, with widths and covers spoilt, with another length, or wholly random.
 fn spoilt(chance: &mut Chance, memory: &[u32]) -> Vec<u32> {
     let mut memory = memory.to_vec();
-    match chance.below(10) {
+    match chance.below(14) {
         0..=5 => spoil(chance, &mut memory),
-        6..=7 => {
+        6..=9 => spoil_widths(chance, &mut memory),
+        10..=11 => {
             let any = chance.below(1600);
             let length = chance.pick(&[0, 1, 31, 32, 736, 767, 769, 800, 1536, any, any]);
             let random = chance.percent(30);
@@ -479,12 +538,12 @@ fn perhaps_past(chance: &mut Chance, good: u32, past: &[u32]) -> u32 {
     }
 }
 
-// A station, most often one with a module of one of these kinds, and its register count.
+// A station, most often one with a module of one of these kinds, at times a covered one, and its register count.
 fn station(chance: &mut Chance, memory: &[u32], kinds: &[u32]) -> (u32, u32) {
     let mut n = chance.from(1, 23);
     for _ in 0..8 {
         let block = &memory[BLOCK * n as usize..];
-        if kinds.contains(&block[0]) || chance.percent(5) {
+        if kinds.contains(&block[0]) || chance.percent(if block[7] == 1 { 20 } else { 5 }) {
             return (n, block[1]);
         }
         n = n % 23 + 1;
@@ -624,20 +683,29 @@ fn run_text(step: &[u32; STEP]) -> String {
     }
 }
 
-// A crate line, and the `previous` to hand in with it.
-fn crate_text(chance: &mut Chance) -> (String, u32) {
-    let n = chance.from(1, 23);
+// A crate line, and the `previous` to hand in with it: for any station, empty, filled or covered, often beside a module two stations wide.
+fn crate_text(chance: &mut Chance, memory: &[u32]) -> (String, u32) {
+    let any = chance.from(1, 23);
+    let near = chance.from(0, 3); // from the station before such a module to the one behind it
+    let n = match (any..=23).find(|n| covers(&memory[*n as usize * BLOCK..])) {
+        Some(n) if chance.percent(50) => (n + near - 1).clamp(1, 23),
+        _ => chance.pick(&[any, any, any, any, 22, 23]),
+    };
     let kind = chance.from(1, 5);
     let r = register_count(chance, kind);
     let any = chance.from(0, 23);
-    let previous = chance.pick(&[0, 0, n - 1, n - 1, any, n, n + 1, 23, 24, u32::MAX]);
+    let huge = chance.word();
+    let previous = chance.pick(&[0, 0, 0, n - 1, n - 1, n - 1, any, n, n + 1, 23, 24, huge, u32::MAX]);
     let n = perhaps_past(chance, n, &[0, 24, 25, 99999999]);
+    let wide = chance.pick(&[1, 1, 2]);
     let (kind, r) = match chance.below(12) {
         0 => (chance.pick(&[0, 1, 4, 5, 6, 7, 255, 257]), r),
         1 => (kind, chance.pick(&[0, 1, 2, 15, 16, 17, 18, 32, 257])),
         _ => (kind, r),
     };
-    (format!("n={n} kind={kind} r={r}"), previous)
+    let wide = if chance.percent(8) { chance.pick(&[0, 3, 4, 257, 258, 99999999]) } else { wide };
+    let end = if chance.percent(2) { String::new() } else { format!(" wide={wide}") };
+    (format!("n={n} kind={kind} r={r}{end}"), previous)
 }
 
 // The line with a fault of some shape; once in a while still in form.
@@ -750,16 +818,16 @@ fn any_call(chance: &mut Chance, memory: &Lent<u32>) -> (Call, Arrays) {
     };
     let mut buffer_len = 0;
     let call = match chance.below(100) {
-        0..=4 => {
-            let (text, previous) = crate_text(chance);
+        0..=7 => {
+            let (text, previous) = crate_text(chance, memory.words());
             Call::CrateLine(previous, perhaps_garbled(chance, text))
         }
-        5..=24 => {
+        8..=27 => {
             let step = any_step(chance, memory.words());
             buffer_len = lent_length(chance, &step);
             Call::RunLine(perhaps_garbled(chance, run_text(&step)))
         }
-        25..=95 => {
+        28..=95 => {
             let step = any_step(chance, memory.words());
             buffer_len = lent_length(chance, &step);
             let mut words = step.to_vec();
@@ -795,7 +863,7 @@ fn any_call(chance: &mut Chance, memory: &Lent<u32>) -> (Call, Arrays) {
     (call, arrays)
 }
 
-// ---- steps worked out by hand ----
+// ---- calls worked out by hand ----
 
 // The words lent, the limit, the answer, and the registers after the put.
 type HandPut = (Vec<u32>, u32, [u32; ANSWER], [u32; 4]);
@@ -874,46 +942,240 @@ const FRONTS_BY_HAND: [HandFront; 19] = [
     (0, [0, 0, 0, 0, 0], [0, 9], 0, [0, 0, 0, 0]),
 ];
 
-// Asserts that library and reference both do the step as the hand has it: the number returned, the answer, memory and buffer, each as it was before and as
-// it is after.
-fn try_by_hand(step: [u32; STEP], answer: [u32; ANSWER], memory: [&[u32]; 2], buffer: [&[u32]; 2]) {
-    let lent = |words: &[u32]| Lent::new(words, || 0);
-    let mut call = Call::Step(lent(&step));
+// A station of a crate: N, words 0 to 7 of its block, register 0. In station 0 the first word is I. All other words are 0.
+type Stood = (usize, [u32; 8], u32);
+
+const COVERED: [u32; 8] = [0, 0, 0, 0, 0, 0, 0, 1];
+
+// A scaler two stations wide in 5; an input register in 8, an output register in 23.
+const WIDE_IN_5: &[Stood] =
+    &[(5, [1, 2, 1, 3, 0, 0, 2, 0], 9), (6, COVERED, 0), (8, [3, 1, 1, 1, 0, 0, 1, 0], 7), (23, [2, 1, 0, 0, 0, 0, 1, 0], 4)];
+// Two modules two stations wide side by side, and an input register behind them.
+const WIDE_IN_4_AND_6: &[Stood] =
+    &[(4, [1, 2, 1, 3, 0, 0, 2, 0], 9), (5, COVERED, 0), (6, [5, 4, 2, 2, 0, 0, 2, 0], 8), (7, COVERED, 0), (8, [3, 1, 1, 1, 0, 0, 1, 0], 7)];
+// Modules in the first and the last stations, all one station wide.
+const AT_THE_ENDS: &[Stood] = &[
+    (1, [3, 1, 1, 1, 0, 0, 1, 0], 1),
+    (2, [3, 1, 1, 1, 0, 0, 1, 0], 2),
+    (3, [3, 1, 1, 1, 0, 0, 1, 0], 3),
+    (22, [3, 1, 1, 1, 0, 0, 1, 0], 22),
+    (23, [3, 1, 1, 1, 0, 0, 1, 0], 23),
+];
+// A module two stations wide in 22, and one in 21.
+const WIDE_IN_22: &[Stood] = &[(21, [3, 1, 1, 1, 0, 0, 1, 0], 21), (22, [3, 1, 1, 1, 0, 0, 2, 0], 22), (23, COVERED, 0)];
+
+// Crate lines that put a module in: the crate before, `previous`, the line, the crate after.
+type HandLine = (&'static [Stood], u32, &'static str, &'static [Stood]);
+
+const LINES_BY_HAND: &[HandLine] = &[
+    // into empty stations
+    (&[], 0, "n=5 kind=1 r=2 wide=2", &[(5, [1, 2, 0, 0, 0, 0, 2, 0], 0), (6, COVERED, 0)]),
+    (&[], 0, "n=1 kind=4 r=1 wide=2", &[(1, [4, 1, 0, 0, 0, 0, 2, 0], 0), (2, COVERED, 0)]),
+    (&[], 0, "n=23 kind=5 r=16 wide=1", &[(23, [5, 16, 0, 0, 0, 0, 1, 0], 0)]),
+    // beside a module two stations wide, left and right
+    (WIDE_IN_5, 3, "n=4 kind=2 r=1 wide=1", &[(4, [2, 1, 0, 0, 0, 0, 1, 0], 0), WIDE_IN_5[0], WIDE_IN_5[1], WIDE_IN_5[2], WIDE_IN_5[3]]),
+    (WIDE_IN_5, 5, "n=7 kind=2 r=1 wide=1", &[WIDE_IN_5[0], WIDE_IN_5[1], (7, [2, 1, 0, 0, 0, 0, 1, 0], 0), WIDE_IN_5[2], WIDE_IN_5[3]]),
+    // one wide in the place of two wide: 6 is uncovered; two wide in its place: 6 stays covered
+    (WIDE_IN_5, 4, "n=5 kind=2 r=3 wide=1", &[(5, [2, 3, 0, 0, 0, 0, 1, 0], 0), WIDE_IN_5[2], WIDE_IN_5[3]]),
+    (WIDE_IN_5, 4, "n=5 kind=5 r=16 wide=2", &[(5, [5, 16, 0, 0, 0, 0, 2, 0], 0), WIDE_IN_5[1], WIDE_IN_5[2], WIDE_IN_5[3]]),
+    // two wide in 4, over the one in 5: 5 is empty and covered, 6 uncovered
+    (WIDE_IN_5, 0, "n=4 kind=3 r=1 wide=2", &[(4, [3, 1, 0, 0, 0, 0, 2, 0], 0), (5, COVERED, 0), WIDE_IN_5[2], WIDE_IN_5[3]]),
+    // two wide in 7, over the input register in 8
+    (WIDE_IN_5, 6, "n=7 kind=4 r=1 wide=2", &[WIDE_IN_5[0], WIDE_IN_5[1], (7, [4, 1, 0, 0, 0, 0, 2, 0], 0), (8, COVERED, 0), WIDE_IN_5[3]]),
+    // of two side by side: one wide in the place of either, two wide in the left one's, and two wide in 3 over it
+    (WIDE_IN_4_AND_6, 0, "n=6 kind=1 r=1 wide=1", &[WIDE_IN_4_AND_6[0], WIDE_IN_4_AND_6[1], (6, [1, 1, 0, 0, 0, 0, 1, 0], 0), WIDE_IN_4_AND_6[4]]),
+    (WIDE_IN_4_AND_6, 0, "n=4 kind=1 r=1 wide=1", &[(4, [1, 1, 0, 0, 0, 0, 1, 0], 0), WIDE_IN_4_AND_6[2], WIDE_IN_4_AND_6[3], WIDE_IN_4_AND_6[4]]),
+    (WIDE_IN_4_AND_6, 0, "n=4 kind=1 r=1 wide=2", &[(4, [1, 1, 0, 0, 0, 0, 2, 0], 0), WIDE_IN_4_AND_6[1], WIDE_IN_4_AND_6[2], WIDE_IN_4_AND_6[3], WIDE_IN_4_AND_6[4]]),
+    (WIDE_IN_4_AND_6, 0, "n=3 kind=1 r=1 wide=2", &[(3, [1, 1, 0, 0, 0, 0, 2, 0], 0), (4, COVERED, 0), WIDE_IN_4_AND_6[2], WIDE_IN_4_AND_6[3], WIDE_IN_4_AND_6[4]]),
+    // over modules one station wide, at both ends of the crate
+    (AT_THE_ENDS, 0, "n=1 kind=2 r=2 wide=2", &[(1, [2, 2, 0, 0, 0, 0, 2, 0], 0), (2, COVERED, 0), AT_THE_ENDS[2], AT_THE_ENDS[3], AT_THE_ENDS[4]]),
+    (AT_THE_ENDS, 21, "n=22 kind=2 r=2 wide=2", &[AT_THE_ENDS[0], AT_THE_ENDS[1], AT_THE_ENDS[2], (22, [2, 2, 0, 0, 0, 0, 2, 0], 0), (23, COVERED, 0)]),
+    (AT_THE_ENDS, 22, "n=23 kind=2 r=2 wide=1", &[AT_THE_ENDS[0], AT_THE_ENDS[1], AT_THE_ENDS[2], AT_THE_ENDS[3], (23, [2, 2, 0, 0, 0, 0, 1, 0], 0)]),
+    // 23 uncovered, by one wide in 22 and by two wide in 21
+    (WIDE_IN_22, 21, "n=22 kind=2 r=2 wide=1", &[WIDE_IN_22[0], (22, [2, 2, 0, 0, 0, 0, 1, 0], 0)]),
+    (WIDE_IN_22, 20, "n=21 kind=2 r=2 wide=2", &[(21, [2, 2, 0, 0, 0, 0, 2, 0], 0), (22, COVERED, 0)]),
+];
+
+// Crate lines that are refused: the crate, which stays as it is, `previous`, the line, the number.
+const REFUSED_BY_HAND: &[(&[Stood], u32, &str, u32)] = &[
+    // a covered station, whatever the rest of the line says
+    (WIDE_IN_5, 5, "n=6 kind=1 r=1 wide=1", 12),
+    (WIDE_IN_5, 0, "n=6 kind=1 r=1 wide=2", 12),
+    (WIDE_IN_5, 5, "n=6 kind=0 r=17 wide=3", 12),
+    (WIDE_IN_4_AND_6, 4, "n=5 kind=1 r=1 wide=2", 12),
+    (WIDE_IN_4_AND_6, 4, "n=7 kind=1 r=1 wide=1", 12),
+    (WIDE_IN_22, 22, "n=23 kind=1 r=1 wide=2", 12),
+    // 1, 2 and 11 before 12
+    (WIDE_IN_5, 5, "n=6 kind=1 r=1", 1),
+    (WIDE_IN_5, 8, "n=6 kind=1 r=1 wide=1", 11),
+    (WIDE_IN_5, 6, "n=6 kind=1 r=1 wide=1", 11),
+    (WIDE_IN_5, u32::MAX, "n=6 kind=0 r=0 wide=0", 11),
+    (WIDE_IN_22, 23, "n=24 kind=1 r=1 wide=2", 2),
+    (WIDE_IN_22, 0, "n=0 kind=1 r=1 wide=2", 2),
+    (WIDE_IN_22, 0, "n=99999999 kind=99999999 r=99999999 wide=99999999", 2),
+    // 10: widths that no module has, and two wide in 23
+    (WIDE_IN_5, 5, "n=7 kind=1 r=1 wide=0", 10),
+    (WIDE_IN_5, 5, "n=7 kind=1 r=1 wide=3", 10),
+    (WIDE_IN_5, 5, "n=7 kind=1 r=1 wide=258", 10),
+    (WIDE_IN_5, 5, "n=7 kind=0 r=0 wide=1", 10),
+    (WIDE_IN_5, 5, "n=7 kind=4 r=2 wide=2", 10),
+    (WIDE_IN_5, 5, "n=23 kind=1 r=1 wide=2", 10),
+    (AT_THE_ENDS, 22, "n=23 kind=1 r=1 wide=2", 10),
+];
+
+// Steps on WIDE_IN_5: the answer, the words stored, the crate after. A covered station answers as an empty one.
+const WIDE_STEPS_BY_HAND: &[([u32; STEP], [u32; ANSWER], &[u32], &[Stood])] = &[
+    ([1, 6, 0, 0, 0, 0], [1, 0, 0, 0], &[], WIDE_IN_5),
+    ([1, 6, 0, 25, 0, 0], [1, 0, 0, 0], &[], WIDE_IN_5),
+    ([1, 6, 0, 16, 5, 0], [1, 0, 0, 0], &[], WIDE_IN_5),
+    ([1, 6, 13, 17, 3, 0], [1, 0, 0, 0], &[], WIDE_IN_5),
+    ([1, 6, 12, 1, 0, 0], [1, 0, 0, 0], &[], WIDE_IN_5),
+    ([2, 6, 0, 5, 0, 0], [2, 0, 0, 0], &[], WIDE_IN_5),
+    ([8, 6, 0, 0, 4, 9], [5, 3, 0, 1], &[], WIDE_IN_5),
+    ([9, 6, 0, 2, 4, 0], [5, 3, 0, 1], &[], WIDE_IN_5),
+    // 5 and 8 request
+    ([6, 0, 0, 0, 0, 0], [4, 16 + 128, 2, 5], &[], WIDE_IN_5),
+    // two registers, then Q = 0 at A2 of 5, in 6 and in 7
+    ([7, 5, 0, 0, 7, 8], [5, 2, 2, 5], &[9, 0], WIDE_IN_5),
+    // none of 5 to 8 takes F16
+    ([10, 5, 0, 8, 4, 3], [6, 2, 0, 4], &[], WIDE_IN_5),
+    // F25 at the module itself
+    ([1, 5, 0, 25, 0, 0], [1, 1, 1, 0], &[], &[(5, [1, 2, 1, 3, 0, 0, 2, 0], 10), WIDE_IN_5[1], WIDE_IN_5[2], WIDE_IN_5[3]]),
+    // Z and C leave width and cover
+    (
+        [3, 0, 0, 0, 0, 0],
+        [3, 1, 0, 0],
+        &[],
+        &[
+            (0, [1, 0, 0, 0, 0, 0, 0, 0], 0),
+            (5, [1, 2, 0, 0, 0, 0, 2, 0], 0),
+            (6, COVERED, 0),
+            (8, [3, 1, 0, 0, 0, 0, 1, 0], 0),
+            (23, [2, 1, 0, 0, 0, 0, 1, 0], 0),
+        ],
+    ),
+    (
+        [4, 0, 0, 0, 0, 0],
+        [3, 1, 0, 0],
+        &[],
+        &[(5, [1, 2, 1, 3, 0, 0, 2, 0], 0), (6, COVERED, 0), (8, [3, 1, 1, 1, 0, 0, 1, 0], 0), (23, [2, 1, 0, 0, 0, 0, 1, 0], 0)],
+    ),
+];
+
+// Words of WIDE_IN_5 set so that it stays fit, each by station, place in its block, and value.
+const FIT_BY_HAND: &[&[(usize, usize, u32)]] = &[
+    &[],
+    // the input register in 8 two wide, with its cover
+    &[(8, 6, 2), (9, 7, 1)],
+    // the scaler one wide, without
+    &[(5, 6, 1), (6, 7, 0)],
+];
+
+// The same, so that it is not fit.
+const UNFIT_BY_HAND: &[&[(usize, usize, u32)]] = &[
+    // two wide without its cover, and a cover that is 2
+    &[(6, 7, 0)],
+    &[(6, 7, 2)],
+    // a cover behind one wide, behind an empty station, in station 1, and behind the covered one
+    &[(9, 7, 1)],
+    &[(12, 7, 1)],
+    &[(1, 7, 1)],
+    &[(7, 7, 1)],
+    // on the module itself, or before it
+    &[(5, 7, 1)],
+    &[(4, 7, 1)],
+    &[(6, 7, 0), (5, 7, 1)],
+    // two wide in 23
+    &[(23, 6, 2)],
+    // a module in the covered station, still covered or not
+    &[(6, 0, 1), (6, 1, 1), (6, 6, 1)],
+    &[(6, 0, 1), (6, 1, 1), (6, 6, 1), (6, 7, 0)],
+    &[(7, 0, 1), (7, 1, 1), (7, 6, 2), (8, 7, 1)],
+    // width 0 with a module
+    &[(8, 6, 0)],
+    &[(5, 6, 0), (6, 7, 0)],
+    // a width in an empty station and in the covered one
+    &[(12, 6, 1)],
+    &[(12, 6, 2), (13, 7, 1)],
+    &[(6, 6, 1)],
+    &[(6, 6, 2), (7, 7, 1)],
+    // widths that no module has
+    &[(8, 6, 3)],
+    &[(8, 6, 3), (9, 7, 1)],
+    &[(8, 6, 1 << 31)],
+    &[(5, 6, 258)],
+    // words 8 to 15
+    &[(5, 8, 1)],
+    &[(6, 15, 1)],
+    &[(12, 8, 1)],
+    &[(8, 15, 1 << 31)],
+    // block 0 as if it covered station 1, or were covered
+    &[(0, 6, 2)],
+    &[(0, 6, 2), (1, 7, 1)],
+    &[(0, 7, 1)],
+];
+
+fn memory_of(stations: &[Stood]) -> Vec<u32> {
+    let mut memory = vec![0; MEMORY];
+    for (n, words, register) in stations {
+        memory[n * BLOCK..n * BLOCK + 8].copy_from_slice(words);
+        memory[n * BLOCK + 16] = *register;
+    }
+    memory
+}
+
+fn lent_by_hand<T: Copy + Default>(contents: &[T]) -> Lent<T> {
+    Lent::new(contents, T::default)
+}
+
+// Asserts that library and reference both do the call as the hand has it: the number returned, the answer, memory and buffer, each as it was before and as
+// it is after. Before it the answer is 0.
+fn try_by_hand(mut call: Call, number: u32, answer: [u32; ANSWER], memory: [&[u32]; 2], buffer: [&[u32]; 2]) {
     let call_before = call.clone();
-    let mut reference = Arrays { memory: lent(memory[0]), answer: lent(&[0; ANSWER]), buffer: lent(buffer[0]) };
+    let mut reference = Arrays { memory: lent_by_hand(memory[0]), answer: lent_by_hand(&[0; ANSWER]), buffer: lent_by_hand(buffer[0]) };
     let mut library = reference.clone();
-    let number = if answer[0] == 0 { answer[1] } else { 0 };
-    let shown = format!("step {step:?}, {} words lent", buffer[0].len());
+    let shown = match &call {
+        Call::CrateLine(previous, line) => format!("crate line {} after {previous}", line.words().escape_ascii()),
+        Call::RunLine(line) => format!("run line {}", line.words().escape_ascii()),
+        Call::Step(step) => format!("step {:?}, {} words lent", step.words(), buffer[0].len()),
+        Call::List(count, _) => format!("list of {count} steps"),
+    };
 
     assert_eq!(call_reference(&call, &mut reference), number, "reference, returned, {shown}");
     assert_eq!(call_library(&mut call, &mut library), number, "library, returned, {shown}");
-    assert!(call == call_before, "library, step, {shown}");
+    assert!(call == call_before, "library, step or line, {shown}");
     for (name, after) in [("reference", reference), ("library", library)] {
-        assert!(after.answer == lent(&answer), "{name}, answer {:?}, {shown}", after.answer.words());
-        assert!(after.memory == lent(memory[1]), "{name}, memory, {shown}");
-        assert!(after.buffer == lent(buffer[1]), "{name}, buffer, {shown}");
+        assert!(after.answer == lent_by_hand(&answer), "{name}, answer {:?}, {shown}", after.answer.words());
+        assert!(after.memory == lent_by_hand(memory[1]), "{name}, memory, {shown}");
+        assert!(after.buffer == lent_by_hand(buffer[1]), "{name}, buffer, {shown}");
     }
+}
+
+fn try_step(step: [u32; STEP], answer: [u32; ANSWER], memory: [&[u32]; 2], buffer: [&[u32]; 2]) {
+    let number = if answer[0] == 0 { answer[1] } else { 0 };
+    try_by_hand(Call::Step(lent_by_hand(&step)), number, answer, memory, buffer);
+}
+
+fn try_line(previous: u32, line: &str, number: u32, memory: [&[u32]; 2]) {
+    try_by_hand(Call::CrateLine(previous, lent_by_hand(line.as_bytes())), number, [0; ANSWER], memory, [&[], &[]]);
 }
 
 // All of them, each from its crate.
 fn try_all_by_hand() {
     let station = |n: usize| n * BLOCK;
     for (words, limit, answer, registers) in puts_by_hand() {
-        let mut before = vec![0; MEMORY];
-        before[station(2)..station(2) + 2].copy_from_slice(&[2, 4]);
+        let mut before = memory_of(&[(2, [2, 4, 0, 0, 0, 0, 1, 0], 9)]);
         before[station(2) + 16..station(2) + 20].fill(9);
         let mut after = before.clone();
         after[station(2) + 16..station(2) + 20].copy_from_slice(&registers);
-        try_by_hand([11, 2, 0, 2, limit, u32::MAX], answer, [&before, &after], [&words, &words]);
+        try_step([11, 2, 0, 2, limit, u32::MAX], answer, [&before, &after], [&words, &words]);
     }
     for (step, answer, stored) in TRANSFERS_BY_HAND {
-        let mut memory = vec![0; MEMORY];
-        memory[station(3)..station(3) + 2].copy_from_slice(&[1, 2]);
+        let mut memory = memory_of(&[(3, [1, 2, 0, 0, 0, 0, 1, 0], 0), (5, [4, 1, 0, 0, 0, 0, 1, 0], 0)]);
         memory[station(3) + 17] = 9;
-        memory[station(5)..station(5) + 2].copy_from_slice(&[4, 1]);
         let buffer = vec![77; 512];
         let after = [stored, &buffer[stored.len()..]].concat();
-        try_by_hand(step, answer, [&memory, &memory], [&buffer, &after]);
+        try_step(step, answer, [&memory, &memory], [&buffer, &after]);
     }
     for (inhibit, [kind, r, status, mask, fill], [a, v], digit, [status_after, fill_after, place, word]) in FRONTS_BY_HAND {
         let register = |place: u32| station(7) + 16 + place as usize;
@@ -922,18 +1184,49 @@ fn try_all_by_hand() {
             4 => register(0)..register(fill),
             _ => register(a)..register(a + 1),
         };
-        let mut before = vec![0; MEMORY];
+        let mut before = memory_of(&[(7, [kind, r, status, mask, 0, fill, (kind != 0) as u32, 0], 0)]);
         before[0] = inhibit;
-        before[station(7)..station(7) + 6].copy_from_slice(&[kind, r, status, mask, 0, fill]);
         before[held].fill(16777215);
         let mut after = before.clone();
         after[station(7) + 2] = status_after;
         after[station(7) + 5] = fill_after;
         after[register(place)] = word;
-        try_by_hand([2, 7, a, v, 0, 0], [2, digit, 0, 0], [&before, &after], [&[77], &[77]]);
+        try_step([2, 7, a, v, 0, 0], [2, digit, 0, 0], [&before, &after], [&[77], &[77]]);
     }
-    let (puts, transfers, fronts) = (puts_by_hand().len(), TRANSFERS_BY_HAND.len(), FRONTS_BY_HAND.len());
-    println!("{puts} puts, {transfers} Repeats and Stops, {fronts} front events worked out by hand, 0 differ");
+    for (before, previous, line, after) in LINES_BY_HAND {
+        try_line(*previous, line, 0, [&memory_of(before), &memory_of(after)]);
+    }
+    for (stations, previous, line, number) in REFUSED_BY_HAND {
+        let memory = memory_of(stations);
+        try_line(*previous, line, *number, [&memory, &memory]);
+    }
+    for (step, answer, stored, after) in WIDE_STEPS_BY_HAND {
+        let buffer = vec![77; 16];
+        let buffer_after = [stored, &buffer[stored.len()..]].concat();
+        try_step(*step, *answer, [&memory_of(WIDE_IN_5), &memory_of(after)], [&buffer, &buffer_after]);
+    }
+    // F0 at the empty station 20, a crate line for 20, a run line and a list of no steps
+    for (sets, fit) in FIT_BY_HAND.iter().map(|sets| (sets, true)).chain(UNFIT_BY_HAND.iter().map(|sets| (sets, false))) {
+        let mut memory = memory_of(WIDE_IN_5);
+        sets.iter().for_each(|(n, place, value)| memory[station(*n) + place] = *value);
+        let mut placed = memory.clone();
+        if fit {
+            placed[station(20)..station(20) + 8].copy_from_slice(&[1, 1, 0, 0, 0, 0, 1, 0]);
+        }
+        let number = if fit { 0 } else { UNFIT_CRATE };
+        let answer = if fit { [1, 0, 0, 0] } else { [0, UNFIT_CRATE, 0, 0] };
+        let lam = if fit { [4, 16 + 128, 2, 5] } else { answer };
+        try_step([1, 20, 0, 0, 0, 0], answer, [&memory, &memory], [&[], &[]]);
+        try_line(19, "n=20 kind=1 r=1 wide=1", number, [&memory, &placed]);
+        try_by_hand(Call::RunLine(lent_by_hand(b"op=lam")), number, lam, [&memory, &memory], [&[], &[]]);
+        try_by_hand(Call::List(0, lent_by_hand(&[])), number, [0; ANSWER], [&memory, &memory], [&[], &[]]);
+    }
+    println!("worked out by hand, 0 differ:");
+    println!("  {} puts, {} Repeats and Stops, {} front events", puts_by_hand().len(), TRANSFERS_BY_HAND.len(), FRONTS_BY_HAND.len());
+    println!(
+        "  {} crate lines and {} refused, {} steps beside a covered station, {} memories fit and {} unfit",
+        LINES_BY_HAND.len(), REFUSED_BY_HAND.len(), WIDE_STEPS_BY_HAND.len(), FIT_BY_HAND.len(), UNFIT_BY_HAND.len()
+    );
 }
 
 // ---- what is printed of a difference ----
@@ -994,7 +1287,7 @@ fn main() {
     let mut memory = lent_words(&mut chance, &[]);
     let mut left = 0; // calls until a new memory is made
     let mut by_function = [0u64; 4];
-    let mut by_number = [0u64; 12];
+    let mut by_number = [0u64; NUMBERS];
     for place in 1..=count {
         if left == 0 {
             let contents = fit_memory(&mut chance);
@@ -1053,7 +1346,7 @@ fn main() {
     let [steps, run_lines, crate_lines, lists] = by_function;
     println!("steps {steps}, run lines {run_lines}, crate lines {crate_lines}, lists {lists}");
     print!("returned 0: {}; refusals", by_number[0]);
-    (1..12).for_each(|number| print!(" {number}: {}", by_number[number]));
+    (1..NUMBERS).for_each(|number| print!(" {number}: {}", by_number[number]));
     println!();
     println!("{count} calls, 0 differ");
 }

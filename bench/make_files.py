@@ -13,13 +13,22 @@ WORDS = [0, 1, 2, 5, 10, 255, 65535, 65536, 8388606, 8388607, 8388608, 8388609, 
 FUNCTIONS = [0, 0, 2, 2, 3, 9, 16, 18, 21, 25, 25, 8, 10, 24, 26, 26, 27, 1, 1, 11, 17, 17, 19, 23]
 
 
-def module(rng, n):
+def module(rng, n, wide=1):
     kind = rng.randint(1, 5)
-    return n, kind, 1 if kind == 4 else rng.choice([1, 2, 3, rng.randint(1, 16), 16])
+    return n, kind, 1 if kind == 4 else rng.choice([1, 2, 3, rng.randint(1, 16), 16]), wide
+
+
+def modules_in(rng, stations, two_wide):
+    """Modules in these stations, none in a covered one; `two_wide` of them, 0 to 1, are two stations wide."""
+    modules = []
+    for n in stations:
+        if n - 1 not in [each[0] for each in modules if each[3] == 2]:
+            modules.append(module(rng, n, 2 if n < 23 and rng.random() < two_wide else 1))
+    return modules
 
 
 def crate_text(modules):
-    return "".join("n=%d kind=%d r=%d\n" % each for each in modules).encode()
+    return "".join("n=%d kind=%d r=%d wide=%d\n" % each for each in modules).encode()
 
 
 def word(rng):
@@ -27,10 +36,11 @@ def word(rng):
 
 
 def station(rng, modules):
-    """Most often a station with a module."""
+    """A station and its register count: most often one with a module, at times one that a module covers."""
     if modules and rng.random() < 0.9:
-        return rng.choice(modules)
-    return rng.randint(1, 23), 0, 0
+        n, _, r, wide = rng.choice(modules)
+        return (n + 1, 0) if wide == 2 and rng.random() < 0.2 else (n, r)
+    return rng.randint(1, 23), 0
 
 
 def subaddress(rng, r, function=None):
@@ -44,14 +54,14 @@ def subaddress(rng, r, function=None):
 def put(rng, modules, limit):
     """A put, most often from a station that takes F16."""
     takes = [each for each in modules if each[1] in (2, 5)]
-    n, _, r = station(rng, takes if rng.random() < 0.7 else modules)
+    n, r = station(rng, takes if rng.random() < 0.7 else modules)
     a = subaddress(rng, r) if rng.random() < 0.5 else 0
     return "op=put n=%d a=%d to=%d limit=%d w=%d" % (n, a, rng.choice([n, rng.randint(n, 23)]), limit, word(rng))
 
 
 def step(rng, modules, longest):
     """A run line in form; a transfer asks for at most `longest` words or cycles."""
-    n, _, r = station(rng, modules)
+    n, r = station(rng, modules)
     pick = rng.random()
     if pick < 0.44:
         f = rng.choice(FUNCTIONS) if rng.random() < 0.9 else rng.randint(0, 31)
@@ -150,7 +160,7 @@ def write_folder(path, crate, run):
 def mixed(path):
     """99,999 lines of all ten forms, one in twenty with a field past its bound, one in fifty garbled."""
     rng = random.Random("mixed")
-    modules = [module(rng, n) for n in range(1, 24) if n not in (6, 13)]
+    modules = modules_in(rng, [n for n in range(1, 24) if n not in (6, 13)], 0.1)
     lines = []
     for _ in range(LAST_LINE):
         line = step(rng, modules, 64)
@@ -164,7 +174,7 @@ def mixed(path):
 def scans(path):
     """Registers filled by front events, then 20,000 long scans, Repeats and Stops, one Repeat in three on an empty buffer memory."""
     rng = random.Random("scans")
-    modules = [(n, 1, 16) for n in range(1, 21)] + [(21, 4, 1), (22, 2, 16), (23, 5, 16)]
+    modules = [(n, 1, 16, 1) for n in range(1, 21)] + [(21, 4, 1, 1), (22, 2, 16, 1), (23, 5, 16, 1)]
     lines = ["op=front n=%d a=%d v=%d" % (n, a, word(rng)) for n in range(1, 21) for a in range(16)]
     for place in range(20000):
         n, a, f = rng.randint(1, 20), rng.randint(0, 15), rng.choice([0, 0, 3])
@@ -191,33 +201,62 @@ def garbled(path):
 def past(path):
     """Three lines more than are read."""
     run = b"op=lam\n" * (LAST_LINE - 1) + b"op=z\n" + b"op=lam\n\nop=c\n"
-    write_folder(path, b"n=3 kind=1 r=2\n", run)
+    write_folder(path, b"n=3 kind=1 r=2 wide=1\n", run)
+
+
+def badly_wide(rng, modules):
+    """The crate's lines with a covered station named, a width that no module has, two stations in 22 or 23, or a line without its width."""
+    modules = list(modules) or [module(rng, rng.randint(1, 23))]
+    at = rng.randrange(len(modules))
+    n, kind, r, _ = modules[at]
+    below = [each for each in modules if each[0] < n]
+    above = [each for each in modules if each[0] > n + 1]
+    covered = (n + 1,) + rng.choice([(kind, r, 1), (kind, r, 2), (kind, r, 3), (0, 17, 0)])
+    shape = rng.randint(0, 5)
+    if shape == 0:
+        modules = below + [(n, kind, r, 2), covered] + above
+    elif shape == 1:
+        modules = below + [(n, kind, r, 2)] + above + [covered]
+    elif shape == 2:
+        modules[at] = n, kind, r, rng.choice([0, 3, 4, 16, 257, 258, 99999999])
+    elif shape == 3:
+        modules = [each for each in modules if each[0] < 22] + [(22, kind, r, 2)] + rng.choice([[], [(23, kind, r, 1)], [(23, kind, r, 2)]])
+    elif shape == 4:
+        modules = [each for each in modules if each[0] < 23] + [(rng.choice([23, 23, 24]), kind, r, 2)]
+    lines = crate_text(modules).split(b"\n")[:-1]
+    if shape == 5 or rng.random() < 0.1:
+        at = rng.randrange(len(lines))
+        lines[at] = lines[at].rsplit(b" ", 1)[0]
+    return lines
 
 
 def random_crate(rng):
-    modules = [module(rng, n) for n in range(1, 24) if rng.random() < rng.choice([0.1, 0.3, 1.0])]
+    stations = [n for n in range(1, 24) if rng.random() < rng.choice([0.1, 0.3, 1.0])]
+    modules = modules_in(rng, stations, rng.choice([0.0, 0.2, 0.6]))
     text = crate_text(modules)
     pick = rng.random()
-    if pick < 0.8:
+    if pick < 0.7:
         return modules, text
-    if pick < 0.85:
+    if pick < 0.75:
         return [], rng.choice([None, b"", b"\n"])
-    lines = text.split(b"\n")[:-1] or [b"n=1 kind=1 r=1"]
+    lines = text.split(b"\n")[:-1] or [b"n=1 kind=1 r=1 wide=1"]
     at = rng.randrange(len(lines))
-    if pick < 0.92:
+    if pick < 0.81:
         lines[at] = edge_fields(rng, lines[at].decode()).encode()
-    elif pick < 0.96:
+    elif pick < 0.85:
         lines[at] = spoiled(rng, lines[at].decode())
-    elif pick < 0.98:
+    elif pick < 0.87:
         lines.insert(at, rng.choice(lines))
-    else:
+    elif pick < 0.89:
         rng.shuffle(lines)
+    else:
+        lines = badly_wide(rng, modules)
     return modules, b"\n".join(lines) + rng.choice([b"\n", b"", b"\n\n"])
 
 
 def burst(rng, modules):
     """Inhibit off or on, and more events at a buffer memory than it holds."""
-    n = rng.choice([n for n, kind, _ in modules if kind == 4] or [1])
+    n = rng.choice([each[0] for each in modules if each[1] == 4] or [1])
     return [b"op=i v=%d" % rng.choice([0, 0, 0, 1])] + [b"op=front n=%d a=0 v=%d" % (n, word(rng)) for _ in range(rng.randint(16, 19))]
 
 

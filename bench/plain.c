@@ -1,4 +1,4 @@
-// The CAMAC rehearsal in plain C, written from document 01 and requests L1, L3 and L4 of document 02, read as docs/RULES.md has them.
+// The CAMAC rehearsal in plain C, written from document 01 and requests L1, L3, L4 and L6 of document 02, read as docs/RULES.md has them.
 // It shares no code with the proved program, so that the two can be compared, in what they print and in how fast they are.
 // Build: gcc -O3 -DSTDIO plain.c has the C library read lines and print numbers, as a C program mostly does; gcc -O3 plain.c does both by hand, to be quick.
 // It reads crate.txt and run.txt in the current folder, or the two files named, and prints the sheet.
@@ -23,18 +23,19 @@ enum {
     CROSSED_RANGE,
     BAD_LENGTH,
     BAD_MODULE = 10,
-    OUT_OF_ORDER
+    OUT_OF_ORDER,
+    COVERED_STATION
 };
 
 struct station {
-    uint32_t kind, r, s, status, mask, head, fill, word[16];
+    uint32_t kind, r, wide, s, status, mask, head, fill, word[16];
 };
 
 struct reply {
     uint32_t x, q, r;
 };
 
-static struct station crate[STATIONS + 1]; // block 0 is not used
+static struct station crate[STATIONS + 1]; // crate[0], left of station 1, stays empty
 static uint32_t inhibit;
 
 // ---- the sheet ----
@@ -535,22 +536,24 @@ static bool take_run_line(const char *line, uint32_t k)
     return true;
 }
 
-// Reads a crate line and puts its module in: 0, or a refusal number.
+// Reads a crate line and puts its module in: 0, or a refusal number. Lines go upwards, so a module two stations wide always finds the station that it covers empty.
 static uint32_t crate_line(const char *p)
 {
     static uint32_t previous;
-    uint32_t n, kind, r;
+    uint32_t n, kind, r, wide;
 
-    if (!(FIELD("n=", n) && FIELD(" kind=", kind) && FIELD(" r=", r) && END()))
+    if (!(FIELD("n=", n) && FIELD(" kind=", kind) && FIELD(" r=", r) && FIELD(" wide=", wide) && END()))
         return GARBLED;
     if (n < 1 || n > STATIONS)
         return NO_SUCH_STATION;
     if (n <= previous)
         return OUT_OF_ORDER;
-    if (kind < SCALER || kind > COUNTER || r < 1 || r > (kind == BUFFER ? 1 : 16))
+    if (crate[n - 1].wide == 2)
+        return COVERED_STATION;
+    if (kind < SCALER || kind > COUNTER || r < 1 || r > (kind == BUFFER ? 1 : 16) || wide < 1 || wide > (n == STATIONS ? 1 : 2))
         return BAD_MODULE;
     previous = n;
-    crate[n] = (struct station){.kind = kind, .r = r, .s = kind == OUTPUT ? 0 : kind == BUFFER ? 2 : r};
+    crate[n] = (struct station){.kind = kind, .r = r, .wide = wide, .s = kind == OUTPUT ? 0 : kind == BUFFER ? 2 : r};
     return 0;
 }
 

@@ -1,4 +1,4 @@
-// The crate, its steps and its lines in plain Rust, written from document 01 and requests L1, L3 and L4 of document 02, read as docs/RULES.md has them.
+// The crate, its steps and its lines in plain Rust, written from document 01 and requests L1, L3, L4 and L6 of document 02, read as docs/RULES.md has them.
 // It shares no code with the proved library, so that library.rs can compare the two call by call.
 
 use std::collections::VecDeque;
@@ -19,6 +19,7 @@ const BAD_LENGTH: u32 = 7;
 pub const SHORT_BUFFER: u32 = 8;
 const BAD_MODULE: u32 = 10;
 const OUT_OF_ORDER: u32 = 11;
+const COVERED_STATION: u32 = 12;
 
 // ---- modules ----
 
@@ -36,6 +37,7 @@ pub enum Kind {
 pub struct Module {
     pub kind: Kind,
     pub r: u32,
+    pub wide: u32, // stations that it fills
     pub status: u32,
     pub mask: u32,
     pub registers: [u32; 16], // of a buffer memory not used
@@ -46,7 +48,7 @@ pub struct Module {
 
 pub struct Crate {
     pub inhibit: bool,
-    pub stations: Vec<Module>, // place n is station n; place 0 is not used
+    pub stations: Vec<Module>, // place n is station n; place 0, left of station 1, stays empty
 }
 
 #[derive(Clone, Copy)]
@@ -82,11 +84,11 @@ fn signed(word: u32) -> i64 {
 
 impl Module {
     pub fn empty() -> Module {
-        Module::new(Kind::Empty, 0)
+        Module::new(Kind::Empty, 0, 0)
     }
 
-    pub fn new(kind: Kind, r: u32) -> Module {
-        Module { kind, r, status: 0, mask: 0, registers: [0; 16], words: VecDeque::new(), head: 0 }
+    pub fn new(kind: Kind, r: u32, wide: u32) -> Module {
+        Module { kind, r, wide, status: 0, mask: 0, registers: [0; 16], words: VecDeque::new(), head: 0 }
     }
 
     fn sources(&self) -> u32 {
@@ -284,6 +286,19 @@ impl Crate {
         Crate { inhibit: false, stations: vec![Module::empty(); STATIONS as usize + 1] }
     }
 
+    // Whether the module to its left fills station n too.
+    pub fn covered(&self, n: u32) -> bool {
+        self.stations[n as usize - 1].wide == 2
+    }
+
+    // Puts a module into station n, which is not covered. What stood in the stations that it fills is taken out, and covers nothing any more.
+    fn put_in(&mut self, n: u32, module: Module) {
+        if module.wide == 2 {
+            self.stations[n as usize + 1] = Module::empty();
+        }
+        self.stations[n as usize] = module;
+    }
+
     fn command(&mut self, n: u32, a: u32, f: u32, w: u32) -> Reply {
         self.stations[n as usize].command(a, f, w)
     }
@@ -294,7 +309,7 @@ impl Crate {
 
     fn initialize(&mut self) {
         for module in &mut self.stations {
-            *module = Module::new(module.kind, module.r);
+            *module = Module::new(module.kind, module.r, module.wide);
         }
         self.inhibit = true;
     }
@@ -582,11 +597,12 @@ fn fields<const COUNT: usize>(line: &[u8], head: &str, names: [&str; COUNT]) -> 
     }
 }
 
-// One line of crate.txt, after a line for station `previous` (0 before the first).
-pub fn crate_line(line: &[u8], previous: u32) -> Result<(u32, Module), u32> {
-    let [n, kind, r] = fields(line, "", ["n=", " kind=", " r="]).ok_or(GARBLED)?;
+// One line of crate.txt on a fit crate, after a line for station `previous` (0 before the first). A refused one changes nothing.
+pub fn crate_line(memory: &mut Crate, line: &[u8], previous: u32) -> Result<(), u32> {
+    let [n, kind, r, wide] = fields(line, "", ["n=", " kind=", " r=", " wide="]).ok_or(GARBLED)?;
     judge_station(n)?;
     judge(n <= previous, OUT_OF_ORDER)?;
+    judge(memory.covered(n), COVERED_STATION)?;
     let (kind, most) = match kind {
         1 => (Kind::Scaler, 16),
         2 => (Kind::Output, 16),
@@ -596,7 +612,10 @@ pub fn crate_line(line: &[u8], previous: u32) -> Result<(u32, Module), u32> {
         _ => return Err(BAD_MODULE),
     };
     judge(r < 1 || r > most, BAD_MODULE)?;
-    Ok((n, Module::new(kind, r)))
+    judge(wide != 1 && wide != 2, BAD_MODULE)?;
+    judge(wide == 2 && n == STATIONS, BAD_MODULE)?;
+    memory.put_in(n, Module::new(kind, r, wide));
+    Ok(())
 }
 
 // One line of run.txt; none when it is garbled.

@@ -163,7 +163,7 @@ def station_lines(numbers):
 
 def refusal_lines(first, second):
     lines = []
-    for number in range(1, 12):
+    for number in range(1, 13):
         due = [place for place, step in enumerate(first) if step.refused == number]
         there = [place for place, step in enumerate(second) if step.refused == number]
         if len(due) > len(there):

@@ -1,6 +1,6 @@
 /* pagontxu.h: a rehearsal of a CAMAC crate, for programs in C, Fortran or Python.
  *
- * The rules are those of document 01, "The CAMAC rehearsal crate", and of document 02, requests L1 to L5; docs/RULES.md has them, numbered. Each function is
+ * The rules are those of document 01, "The CAMAC rehearsal crate", and of document 02, requests L1 to L6; docs/RULES.md has them, numbered. Each function is
  * proved to return and to leave what its definition in crates/capi/specs/Calls.antt says, for any contents and any lengths of the arrays that it is lent.
  *
  * Build the archive with `rt staticlib capi` and link target/staticlib/libcapi.a (x86-64 Linux). The library keeps no state, allocates nothing
@@ -22,9 +22,15 @@
  *     word 3        LAM mask
  *     word 4        head, 0 to 15, of a buffer memory, else 0
  *     word 5        fill, 0 to 16, of a buffer memory, else 0
- *     words 6 to 15 0
+ *     word 6        width in stations: 1 or 2; of an empty station 0, covered or not
+ *     word 7        1 where the station is covered, that is where word 6 of block N - 1 is 2; else 0
+ *     words 8 to 15 0
  *     words 16 to 31  registers 0 to 15, 24 bits each; those at r and above are 0, but for a buffer memory
+ *   A covered station is empty, and no module in station 23 is two stations wide.
  *   A memory that is not so, or is not 768 words long, is unfit: refusal 9.
+ *
+ * A MODULE TWO STATIONS WIDE stands in station N, where it answers, and covers N + 1. The covered station answers as an empty one: X = Q = R = 0, the digit 0
+ * to a front event, no bit of L, and nothing changes. A scan or a put crosses it with one cycle, a Repeat or a Stop ends 3 there.
  *
  * A STEP: six words. Word 0 says which step it is; its fields follow in the order of the run file's line; the words after them are not looked at.
  *   1 naf     n a f w             a command: station, subaddress, function, write word
@@ -47,7 +53,8 @@
  * 0 to r-1 of each, stations ascending; of a buffer memory its oldest word, if it has one.
  *
  * A REPEAT OR A STOP ends 3 at the first cycle with X = 0, that cycle counted: nothing there answers. So it does wherever a is r or above, that is at every a
- * of an empty station and at a = 1 to 15 of a buffer memory, and nowhere else: with 0 words and 1 cycle, and memory and buffer stay as they were.
+ * of an empty station, covered or not, and at a = 1 to 15 of a buffer memory, and nowhere else: with 0 words and 1 cycle, and memory and buffer stay as they
+ * were.
  *
  * AN ANSWER: four words.
  *   0 refused               the refusal number, 0, 0
@@ -79,7 +86,7 @@ extern "C" {
 
 enum pagontxu_refusal {
     PAGONTXU_FINE = 0,
-    PAGONTXU_GARBLED = 1,             /* a line, or a step's word 0, in no form of 01 or L1 */
+    PAGONTXU_GARBLED = 1,             /* a line in no form of docs/RULES.md, 7, or a step's word 0 that is none of the above */
     PAGONTXU_NO_SUCH_STATION = 2,     /* N outside 1 to 23 */
     PAGONTXU_NO_SUCH_SUBADDRESS = 3,  /* A above 15 */
     PAGONTXU_NO_SUCH_FUNCTION = 4,    /* F above 31; in a transfer, not 0, 2, 3 */
@@ -88,8 +95,9 @@ enum pagontxu_refusal {
     PAGONTXU_BAD_LENGTH = 7,          /* limit outside 1 to 512, tries outside 1 to 4096 */
     PAGONTXU_SHORT_BUFFER = 8,        /* fewer than limit words of buffer (a put of one word needs none); or a step, answer, or list array with too few words */
     PAGONTXU_UNFIT_CRATE = 9,         /* the memory is not fit; comes before all else */
-    PAGONTXU_BAD_MODULE = 10,         /* a crate line's kind outside 1 to 5, or r not of its kind */
-    PAGONTXU_OUT_OF_ORDER = 11        /* a crate line's station not above that of the line before */
+    PAGONTXU_BAD_MODULE = 10,         /* a crate line's kind outside 1 to 5, r not of its kind, wide not 1 or 2, or wide 2 in station 23 */
+    PAGONTXU_OUT_OF_ORDER = 11,       /* a crate line's station not above that of the line before */
+    PAGONTXU_COVERED_STATION = 12     /* a crate line's station is covered: its word 7 is 1 */
 };
 
 enum pagontxu_answer {
@@ -110,8 +118,10 @@ enum {
     PAGONTXU_BUFFER_WORDS = 512       /* of each step of a list */
 };
 
-/* One line of a crate file, `n= kind= r=`, without its LF: puts a module into the memory. `previous` is the station of the line before, 0 before the
- * first. Refusals in this order: 9, 1, 2, 11, 10. The module starts with 0 in its registers, whatever stood in the station. */
+/* One line of a crate file, `n= kind= r= wide=`, without its LF: puts a module into the memory. `previous` is the station of the line before, 0 before the
+ * first. Refusals in this order: 9, 1, 2, 11, 12, 10. Block n gets kind, r and width and is else 0; where wide is 2, block n + 1 becomes empty and covered;
+ * in the block after these, if it is a station's, word 7 becomes 0. No other word changes. So a line over an occupied station replaces what stands in the
+ * stations that its module fills, with the cover that this laid, and the memory stays fit. */
 uint32_t pagontxu_crate_line(uint32_t *memory, size_t memory_len, uint32_t previous, const uint8_t *line, size_t line_len);
 
 /* One line of a run file, as `op=naf n=3 a=0 f=2 w=0`, without its LF. The answer goes into the first four words of `answer`, a refusal too; words past

@@ -24,8 +24,9 @@ def garbled(*lines):
 
 
 # ---- 1. the lines of the paper's listing, and each form with small fields
-module("n=3 kind=1 r=2", "Module n=3 kind=1 r=2")
-module("n=5 kind=4 r=1", "Module n=5 kind=4 r=1")
+module("n=3 kind=1 r=2 wide=1", "Module n=3 kind=1 r=2 wide=1")
+module("n=5 kind=4 r=1 wide=1", "Module n=5 kind=4 r=1 wide=1")
+module("n=7 kind=2 r=16 wide=2", "Module n=7 kind=2 r=16 wide=2")
 step("op=z", "Z")
 step("op=front n=3 a=0 v=5", "Front n=3 a=0 v=5")
 step("op=i v=0", "Inhibit v=0")
@@ -64,9 +65,14 @@ step("op=i v=10000000", "Inhibit v=10000000")
 step("op=i v=16777215", "Inhibit v=16777215")
 step("op=i v=16777216", "Inhibit v=16777216")
 step("op=i v=90909090", "Inhibit v=90909090")
-module("n=1 kind=22 r=333", "Module n=1 kind=22 r=333")
-module("n=0 kind=0 r=0", "Module n=0 kind=0 r=0")
-module("n=24 kind=6 r=17", "Module n=24 kind=6 r=17")
+module("n=1 kind=22 r=333 wide=4444", "Module n=1 kind=22 r=333 wide=4444")
+module("n=4 kind=3 r=2 wide=1", "Module n=4 kind=3 r=2 wide=1")
+module("n=12345678 kind=1234567 r=123456 wide=12345", "Module n=12345678 kind=1234567 r=123456 wide=12345")
+module("n=1 kind=12 r=123 wide=12345678", "Module n=1 kind=12 r=123 wide=12345678")
+module("n=0 kind=0 r=0 wide=0", "Module n=0 kind=0 r=0 wide=0")
+module("n=24 kind=6 r=17 wide=3", "Module n=24 kind=6 r=17 wide=3")
+module("n=23 kind=1 r=1 wide=2", "Module n=23 kind=1 r=1 wide=2")
+module("n=3 kind=1 r=2 wide=10000000", "Module n=3 kind=1 r=2 wide=10000000")
 
 # ---- 3. each field of each form in turn, the others 1: what the number may be
 forms = [
@@ -78,7 +84,7 @@ forms = [
     ("op=stop n={} a={} f={} limit={}", "Stop n={} a={} f={} limit={}", 4),
     ("op=put n={} a={} to={} limit={} w={}", "Put n={} a={} to={} limit={} w={}", 5),
 ]
-module_form = ("n={} kind={} r={}", "Module n={} kind={} r={}", 3)
+module_form = ("n={} kind={} r={} wide={}", "Module n={} kind={} r={} wide={}", 4)
 
 
 def with_one(form, count, at, number):
@@ -108,7 +114,8 @@ for bad in [
 ]:
     garbled("op=i v=" + bad)
     garbled("op=naf n=3 a=" + bad + " f=0 w=0")
-    garbled("n=3 kind=" + bad + " r=1")
+    garbled("n=3 kind=" + bad + " r=1 wide=1")
+    garbled("n=3 kind=1 r=1 wide=" + bad)
 
 # ---- 5. fields missing, extra, twice, in another order, of another form
 garbled(
@@ -131,26 +138,31 @@ garbled(
     "op=put n=2 to=5 limit=10 w=7", "op=put a=0 to=5 limit=10 w=7", "op=put n=2 a=0 f=16 to=5 limit=10 w=7", "op=put n=2 a=0 to=5 limit=10 f=16 w=7",
     "op=put n=2 a=0 to=5 w=7 limit=10", "op=put n=2 a=0 limit=10 to=5 w=7", "op=put n=2 to=5 a=0 limit=10 w=7", "op=put n=2 a=0 to=5 limit=10 v=7",
     "op=put n=2 a=0 to=5 limit=10 w=7 w=7", "op=put n=2 a=0 to=5 limit=10 w=7 tries=1", "op=put n=2 a=0 f=16 w=7", "op=scan n=2 a=0 to=5 limit=10 w=7",
-    "n=3", "n=3 kind=1", "n=3 r=2", "kind=1 r=2", "n= kind= r=", "n kind r", "3 1 2", "n=3 r=2 kind=1", "kind=1 n=3 r=2", "n=3 kind=1 r=2 r=2",
-    "n=3 n=3 kind=1 r=2", "n=3 kind=1 r=2 s=2", "n=3 kind=1 r=2 t=1", "n=3 kind=scaler r=2", "op=n n=3 kind=1 r=2", "n=3 kind=1 r",
+    "n=3", "n=3 kind=1", "n=3 kind=1 r=2", "n=5 kind=4 r=1", "n=3 kind=1 wide=1", "n=3 r=2 wide=1", "kind=1 r=2 wide=1", "wide=1",
+    "n= kind= r= wide=", "n kind r wide", "3 1 2 1", "n=3 kind=1 r wide=1", "n=3 kind=1 r=2 wide", "n=3 kind=1 r=2 wide=", "n=3 kind=1 r=2 1", "n=3 kind=1 r=2 =1",
+    "n=3 r=2 kind=1 wide=1", "kind=1 n=3 r=2 wide=1", "n=3 kind=1 wide=1 r=2", "n=3 wide=1 kind=1 r=2", "wide=1 n=3 kind=1 r=2",
+    "n=3 kind=1 r=2 r=2 wide=1", "n=3 n=3 kind=1 r=2 wide=1", "n=3 kind=1 r=2 wide=1 wide=1", "n=3 kind=1 r=2 wide=1 r=2", "n=3 kind=1 r=2 r=2",
+    "n=3 kind=1 r=2 wide=1 s=2", "n=3 kind=1 r=2 s=2 wide=1", "n=3 kind=1 r=2 wide=1 t=1", "n=3 kind=1 r=2 s=2", "n=3 kind=1 r=2 w=1", "n=3 kind=1 r=2 wid=1",
+    "n=3 kind=1 r=2 width=1", "n=3 kind=1 r=2 wide=two", "n=3 kind=scaler r=2 wide=1", "op=n n=3 kind=1 r=2 wide=1",
 )
 
 # ---- 6. spaces: before, after, doubled, missing, beside the sign of equality; a tab for a space
 for line in ["op=naf n=3 a=0 f=2 w=0", "op=front n=3 a=0 v=5", "op=z", "op=c", "op=i v=0", "op=lam", "op=scan n=3 a=0 f=0 to=5 limit=8",
-             "op=repeat n=7 a=1 f=2 limit=3 tries=4", "op=stop n=8 a=9 f=3 limit=10", "op=put n=2 a=0 to=5 limit=10 w=7", "n=3 kind=1 r=2"]:
+             "op=repeat n=7 a=1 f=2 limit=3 tries=4", "op=stop n=8 a=9 f=3 limit=10", "op=put n=2 a=0 to=5 limit=10 w=7", "n=3 kind=1 r=2 wide=1"]:
     garbled(" " + line, line + " ", "  " + line, line + "  ", "\t" + line, line + "\t")
     garbled(line.replace("=", " =", 1), line.replace("=", "= ", 1))
     if " " in line:
         garbled(line.replace(" ", "  ", 1), line.replace(" ", "", 1), line.replace(" ", "\t", 1), line.replace(" ", "\v", 1))
         garbled("  ".join(line.rsplit(" ", 1)), "".join(line.rsplit(" ", 1)), "\t".join(line.rsplit(" ", 1)))
-garbled(" ", "  ", "\t", "=", "n", "o", "op")
+garbled(" ", "  ", "\t", "=", "n", "o", "op", "n=3 kind=1r=2 wide=1", "n=3 kind=1  r=2 wide=1", "n=3 kind=1 r=2 wide =1", "n=3 kind=1 r=2 wide= 1", "n=3 kind=1 r=2 wi de=1")
 
 # ---- 7. capitals
 for line in ["op=naf n=3 a=0 f=2 w=0", "op=front n=3 a=0 v=5", "op=z", "op=c", "op=i v=0", "op=lam", "op=scan n=3 a=0 f=0 to=5 limit=8",
-             "op=repeat n=7 a=1 f=2 limit=3 tries=4", "op=stop n=8 a=9 f=3 limit=10", "op=put n=2 a=0 to=5 limit=10 w=7", "n=3 kind=1 r=2"]:
+             "op=repeat n=7 a=1 f=2 limit=3 tries=4", "op=stop n=8 a=9 f=3 limit=10", "op=put n=2 a=0 to=5 limit=10 w=7", "n=3 kind=1 r=2 wide=1"]:
     garbled(line.upper(), line[0].upper() + line[1:])
 garbled("op=Z", "op=C", "op=I v=0", "op=i V=0", "op=Lam", "op=LAM", "op=naf N=3 a=0 f=2 w=0", "op=naf n=3 a=0 f=2 W=0", "op=NAF n=3 a=0 f=2 w=0",
-        "op=scan n=3 a=0 f=0 to=5 Limit=8", "N=3 kind=1 r=2", "n=3 Kind=1 r=2", "n=3 kind=1 R=2")
+        "op=scan n=3 a=0 f=0 to=5 Limit=8", "N=3 kind=1 r=2 wide=1", "n=3 Kind=1 r=2 wide=1", "n=3 kind=1 R=2 wide=1", "n=3 kind=1 r=2 Wide=1",
+        "n=3 kind=1 r=2 WIDE=1")
 
 # ---- 8. ops that are none, and words that nearly are
 garbled("op=", "op=x", "op=zz", "op=cc", "op=zc", "op=la", "op=lamp", "op=lamm", "op=lam=", "op=na", "op=nafn=3 a=0 f=2 w=0", "op=nafs n=3 a=0 f=2 w=0",
@@ -161,32 +173,35 @@ garbled("op=", "op=x", "op=zz", "op=cc", "op=zc", "op=la", "op=lamp", "op=lamm",
 
 # ---- 9. odd bytes: CR before the LF, NUL, bytes above 127
 for line in [b"op=naf n=3 a=0 f=2 w=0", b"op=front n=3 a=0 v=5", b"op=z", b"op=c", b"op=i v=0", b"op=lam", b"op=scan n=3 a=0 f=0 to=5 limit=8",
-             b"op=repeat n=7 a=1 f=2 limit=3 tries=4", b"op=stop n=8 a=9 f=3 limit=10", b"op=put n=2 a=0 to=5 limit=10 w=7", b"n=3 kind=1 r=2"]:
+             b"op=repeat n=7 a=1 f=2 limit=3 tries=4", b"op=stop n=8 a=9 f=3 limit=10", b"op=put n=2 a=0 to=5 limit=10 w=7", b"n=3 kind=1 r=2 wide=1"]:
     garbled(line + b"\r", line + b"\0", b"\0" + line, b"\xef\xbb\xbf" + line, line + b"\xff", line.replace(b"=", b"\0=", 1))
 garbled(b"\r", b"\0", b"\0\0\0\0", b"\x7f", b"\x80", b"\xff", b"op=\0", b"op=\xfa", b"op=i v=\0", b"op=i v=0\0000", b"op=i v=\xb0", b"op=i v=\xff",
-        b"op=i v=\x30\x00", b"op=i v=\xef\xbc\x91", b"op=i\xa0v=0", b"op=i\xc2\xa0v=0", b"n=\xb3 kind=1 r=2", b"n=3 kind=1 r=\xb2", b"n=3\0kind=1 r=2",
+        b"op=i v=\x30\x00", b"op=i v=\xef\xbc\x91", b"op=i\xa0v=0", b"op=i\xc2\xa0v=0", b"n=\xb3 kind=1 r=2 wide=1", b"n=3 kind=1 r=\xb2 wide=1",
+        b"n=3 kind=1 r=2 wide=\xb1", b"n=3\0kind=1 r=2 wide=1", b"n=3 kind=1 r=2\0wide=1",
         b"\xeeop=z", b"op=\x1bz", b"op=\x08z", b"op=i v=0\x0b", b"op=i v=0\x0c", b"op=i v=0\x1a")
 
-# ---- 10. lengths: the longest lines in form have 72 and 35 bytes; over 80 bytes is garbled whatever it holds
+# ---- 10. lengths: the longest lines in form have 72 and 49 bytes; over 80 bytes is garbled whatever it holds
 step("op=repeat n=99999999 a=99999999 f=99999999 limit=99999999 tries=99999999",
      "Repeat n=99999999 a=99999999 f=99999999 limit=99999999 tries=99999999")
 step("op=put n=99999999 a=99999999 to=99999999 limit=99999999 w=99999999", "Put n=99999999 a=99999999 to=99999999 limit=99999999 w=99999999")
 step("op=scan n=10000000 a=20000000 f=30000000 to=40000000 limit=50000000", "Scan n=10000000 a=20000000 f=30000000 to=40000000 limit=50000000")
-module("n=99999999 kind=99999999 r=99999999", "Module n=99999999 kind=99999999 r=99999999")
+module("n=99999999 kind=99999999 r=99999999 wide=99999999", "Module n=99999999 kind=99999999 r=99999999 wide=99999999")
 garbled("op=repeat n=99999999 a=99999999 f=99999999 limit=99999999 tries=999999999")
 garbled("op=put n=99999999 a=99999999 to=99999999 limit=99999999 w=999999999")
-garbled("n=99999999 kind=99999999 r=999999999")
+garbled("n=99999999 kind=99999999 r=999999999 wide=99999999")
+garbled("n=99999999 kind=99999999 r=99999999 wide=999999999")
 for long in [79, 80, 81, 82, 200]:
     garbled("op=z".ljust(long), "op=i v=0".ljust(long, "0"), "op=i v=".ljust(long, "1"), "op=repeat n=7 a=1 f=2 limit=3 tries=4".ljust(long, "5"),
-            "n=3 kind=1 r=2".ljust(long), "n=3 kind=1 r=2".ljust(long, "2"), "op=z".rjust(long), "n=3 kind=1 r=2".rjust(long), "x" * long, "9" * long)
-garbled("op=z".ljust(100000), "n=3 kind=1 r=".ljust(100000, "1"))
+            "n=3 kind=1 r=2 wide=1".ljust(long), "n=3 kind=1 r=2 wide=1".ljust(long, "2"), "op=z".rjust(long), "n=3 kind=1 r=2 wide=1".rjust(long), "x" * long,
+            "9" * long)
+garbled("op=z".ljust(100000), "n=3 kind=1 r=2 wide=".ljust(100000, "1"))
 
 # ---- 11. empty lines among good ones: a garbled line changes nothing about the next
 garbled("")
 step("op=z", "Z")
 garbled("", "", "op=zop=z")
-module("n=3 kind=1 r=2", "Module n=3 kind=1 r=2")
-garbled("n=3 kind=1 r=2n=3 kind=1 r=2")
+module("n=3 kind=1 r=2 wide=1", "Module n=3 kind=1 r=2 wide=1")
+garbled("n=3 kind=1 r=2 wide=1n=3 kind=1 r=2 wide=1")
 
 # ---- 12. the last line, which lacks its LF
 step("op=naf n=23 a=15 f=31 w=16777215", "Command n=23 a=15 f=31 w=16777215")

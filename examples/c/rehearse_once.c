@@ -40,10 +40,10 @@ static void print_answer(const uint32_t *answer, const uint32_t *buffer)
     }
 }
 
-/* A crate with the two modules in it. */
+/* A crate with the two modules in it, each one station wide. */
 static uint32_t set_up(uint32_t *memory)
 {
-    const char *scaler = "n=3 kind=1 r=2", *output = "n=4 kind=2 r=2";
+    const char *scaler = "n=3 kind=1 r=2 wide=1", *output = "n=4 kind=2 r=2 wide=1";
     memset(memory, 0, PAGONTXU_MEMORY_WORDS * sizeof memory[0]);
     uint32_t number = pagontxu_crate_line(memory, PAGONTXU_MEMORY_WORDS, 0, (const uint8_t *)scaler, strlen(scaler));
     return number ? number : pagontxu_crate_line(memory, PAGONTXU_MEMORY_WORDS, 3, (const uint8_t *)output, strlen(output));

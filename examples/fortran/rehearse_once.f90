@@ -56,9 +56,9 @@ program rehearse_once
   integer(c_int32_t), parameter :: put_back(6) = [11, 4, 0, 4, 2, 0]
   integer(c_int32_t) :: memory(0:767) = 0, buffer(512) = 0, answer(4), number
 
-  number = pagontxu_crate_line(memory, 768_c_size_t, 0_c_int32_t, "n=3 kind=1 r=2", 14_c_size_t)
+  number = pagontxu_crate_line(memory, 768_c_size_t, 0_c_int32_t, "n=3 kind=1 r=2 wide=1", 21_c_size_t)
   if (number /= 0) stop 1
-  number = pagontxu_crate_line(memory, 768_c_size_t, 3_c_int32_t, "n=4 kind=2 r=2", 14_c_size_t)
+  number = pagontxu_crate_line(memory, 768_c_size_t, 3_c_int32_t, "n=4 kind=2 r=2 wide=1", 21_c_size_t)
   if (number /= 0) stop 1
   call run("op=front n=3 a=0 v=16777215")
   call run("op=naf n=3 a=0 f=26 w=0")

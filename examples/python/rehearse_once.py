@@ -72,7 +72,7 @@ class Crate:
 
 
 def main():
-    crate = Crate(load(sys.argv[1]), [b"n=3 kind=1 r=2", b"n=4 kind=2 r=2"])
+    crate = Crate(load(sys.argv[1]), [b"n=3 kind=1 r=2 wide=1", b"n=4 kind=2 r=2 wide=1"])
     for line in (
         b"op=front n=3 a=0 v=16777215",
         b"op=naf n=3 a=0 f=26 w=0",

@@ -7,7 +7,6 @@ use mathlib.Core.List.{List}
 use lib.Dec.{leb}
 use lib.ListN.{length}
 use Rattle.dataway.specs.Crate.{isFitCrate}
-use Rattle.step.specs.Modules.{moduleVerdict}
 use Rattle.step.specs.declared.Refusal.the-variants.{ShortBuffer, UnfitCrate}
 use Rattle.kinds.specs.declared.Module.{Module}
 use Rattle.step.specs.declared.ModuleLine.{ModuleLine}
@@ -21,7 +20,7 @@ use Rattle.controller.specs.declared.Answer.the-variants.{Replied, Taken, Done,
 use Rattle.controller.proofs.Sentences.{refused-same}
 use Rattle.lists.specs.Words.{readingOf}
 use Rattle.lists.specs.Runs.{ranOf, unrun, isEnough, listOf}
-use Rattle.controller.specs.Placing.{uninstalled, judgedModuleOf, placeOf}
+use Rattle.controller.specs.Placing.{placeVerdict, uninstalled, judgedModuleOf, placeOf}
 use Rattle.rehearsal.specs.Modules.{installOf}
 use Rattle.capi.specs.Calls.{answerNumber, ifLent, stepCall, lineCall, crateCall, listCall}
 use Rattle.step.specs.Refusals.{verdictNumber}
@@ -61,7 +60,7 @@ crate-same m previous l h = go (isFitCrate m) (readModule l) h
 
     go : (t : Bool) (x : ModuleLine) → (verdictNumber (cond t (placeOf m previous x) (uninstalled UnfitCrate m) .verdict) ≡ 0 → ⊥)
         → cond t (placeOf m previous x) (uninstalled UnfitCrate m) .memory ≡ m
-    go true (Holds p) h = judged (moduleVerdict previous p) p h
+    go true (Holds p) h = judged (placeVerdict m previous p) p h
     go true (Bad q) h = refl
     go false x h = refl
 

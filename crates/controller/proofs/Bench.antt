@@ -10,7 +10,7 @@ use Rattle.station.specs.Group1.{readOf, readAndClearOf, readComplementOf, sele
 use Rattle.station.specs.Lam.{testLamOf, testStatusOf}
 use Rattle.station.specs.Command.{functionsOf, commandOf}
 use Rattle.station.specs.Front.{countedOf, storedOf, kindEventsOf, frontOf}
-use Rattle.dataway.specs.Stations.{replyOf, afterCommand, withModule}
+use Rattle.dataway.specs.Stations.{replyOf, afterCommand, occupiedBy, withModule}
 use Rattle.transfer.specs.Cycle.{keep}
 use Rattle.transfer.specs.Scan.{scanning, scanFrom, scanCycle, scanNext}
 use Rattle.transfer.specs.Repeat.{repeatNext, repeatFrom}
@@ -19,10 +19,10 @@ use Rattle.controller.specs.Bench.{Bench, BesideBench}
 
 pub bench : Bench
 unfolding clearBits signedOf blockOf withBlock sourcesOf withoutOldest bufferReadOf bufferReadAndClearOf readOf readAndClearOf readComplementOf
-    selectiveClearOf addedOf testLamOf testStatusOf functionsOf commandOf countedOf storedOf kindEventsOf frontOf replyOf afterCommand withModule
+    selectiveClearOf addedOf testLamOf testStatusOf functionsOf commandOf countedOf storedOf kindEventsOf frontOf replyOf afterCommand withModule occupiedBy
     scanning scanFrom scanCycle scanNext repeatNext repeatFrom keep stopFrom stopNext
 bench = (refl, refl, refl, refl, refl, refl, refl, refl, refl, refl, refl, refl, refl, refl)
 
 pub beside-bench : BesideBench
-unfolding blockOf withBlock readOf functionsOf commandOf replyOf afterCommand withModule repeatNext repeatFrom stopFrom stopNext
+unfolding blockOf withBlock readOf functionsOf commandOf replyOf afterCommand withModule occupiedBy repeatNext repeatFrom stopFrom stopNext
 beside-bench = (refl, refl)

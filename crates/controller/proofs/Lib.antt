@@ -9,3 +9,4 @@ pub mod ScansLaws
 pub mod ScanSamples
 pub mod NotAcceptedLaws
 pub mod FrontsLaws
+pub mod CoveredLaws

@@ -15,8 +15,8 @@ use Rattle.blocks.specs.Blocks.{blockOf, withBlock}
 use Rattle.station.specs.Block.{sourcesOf, isUsed, headerTests, isFitHeader, isFitSpare, isFitRegister, fitTests, isFitBlock}
 use Rattle.station.specs.Group1.{readOf}
 use Rattle.station.specs.Command.{functionsOf, commandOf}
-use Rattle.dataway.specs.Crate.{FitCrate, emptyCrate, isFitRest, isFitStation, crateTests, isFitCrate}
-use Rattle.dataway.specs.Stations.{replyOf, afterCommand, withModule}
+use Rattle.dataway.specs.Crate.{FitCrate, emptyCrate, isFitRest, isFitStation, isFitCover, crateTests, isFitCrate}
+use Rattle.dataway.specs.Stations.{replyOf, afterCommand, occupiedBy, withModule}
 use Rattle.dataway.proofs.CrateLaws.{crate-facts}
 use Rattle.transfer.specs.Cycle.{keep}
 use Rattle.transfer.specs.Repeat.{repeatNext, repeatFrom}
@@ -186,7 +186,7 @@ turned-alike m f = crate-regroup m f (command3 ∷ repeat5 ∷ stop7 ∷ []) (st
 
 -- ---- and where the Repeat ends 3: a scaler in station 3, one in 7, and none in 5
 abbrev pub around5 : List ℕ
-around5 = withModule (withModule emptyCrate (record { n = 3; kind = 1; r = 1 })) (record { n = 7; kind = 1; r = 1 })
+around5 = withModule (withModule emptyCrate (record { n = 3; kind = 1; r = 1; wide = 1 })) (record { n = 7; kind = 1; r = 1; wide = 1 })
 
 -- what the three steps give back
 abbrev replied : Out
@@ -199,13 +199,13 @@ abbrev reached : Out
 reached = record { answer = Transferred (record { end = 1; words = 1; cycles = 1 }); buffer = 0 ∷ [] }
 
 around5-fit : isFitCrate around5 ≡ true
-unfolding blockOf withBlock inTable sourcesOf isUsed headerTests isFitHeader isFitSpare isFitRegister fitTests isFitBlock isFitRest isFitStation crateTests
-    isFitCrate withModule
+unfolding blockOf withBlock inTable sourcesOf isUsed headerTests isFitHeader isFitSpare isFitRegister fitTests isFitBlock isFitRest isFitStation isFitCover crateTests
+    isFitCrate withModule occupiedBy
 around5-fit = refl
 
 pub three-sample : outs leaves gives around5 (command3 ∷ repeat5 ∷ stop7 ∷ []) ≡ replied ∷ three ∷ reached ∷ []
-unfolding blockOf withBlock inTable sourcesOf isUsed headerTests isFitHeader isFitSpare isFitRegister fitTests isFitBlock isFitRest isFitStation crateTests
-    isFitCrate withModule readOf functionsOf commandOf replyOf afterCommand keep repeatNext repeatFrom stopNext stopFrom commandVerdict repeatVerdict stopVerdict
+unfolding blockOf withBlock inTable sourcesOf isUsed headerTests isFitHeader isFitSpare isFitRegister fitTests isFitBlock isFitRest isFitStation isFitCover crateTests
+    isFitCrate withModule occupiedBy readOf functionsOf commandOf replyOf afterCommand keep repeatNext repeatFrom stopNext stopFrom commandVerdict repeatVerdict stopVerdict
     stepOf doneOf
 three-sample = refl
 

@@ -10,7 +10,7 @@ use Rattle.station.specs.Block.{sourcesOf, isUsed, headerTests, isFitHeader, is
 use Rattle.station.specs.Buffer.{withoutOldest, bufferReadOf, bufferReadAndClearOf}
 use Rattle.station.specs.Group1.{readOf, readAndClearOf, overwriteOf}
 use Rattle.station.specs.Command.{functionsOf, commandOf}
-use Rattle.dataway.specs.Crate.{emptyCrate, isFitRest, isFitStation, crateTests, isFitCrate}
+use Rattle.dataway.specs.Crate.{emptyCrate, isFitRest, isFitStation, isFitCover, crateTests, isFitCrate}
 use Rattle.dataway.specs.Stations.{replyOf, afterCommand}
 use Rattle.transfer.specs.Scan.{scanning, scanFrom, scanCycle, scanNext}
 use Rattle.transfer.specs.Held.{heldIn, heldFrom}
@@ -26,10 +26,10 @@ use Rattle.controller.specs.Scans.{scan, put, putLent}
 abbrev pub crate : List ℕ
 crate =
     withBlock (withBlock (withBlock (withBlock emptyCrate
-    2 (1 ∷ 3 ∷ replicate 14 0 ++ (11 ∷ 0 ∷ 13 ∷ replicate 13 0)))
-    4 (4 ∷ 1 ∷ 1 ∷ 0 ∷ 0 ∷ 2 ∷ replicate 10 0 ++ (21 ∷ 22 ∷ replicate 14 0)))
-    5 (4 ∷ 1 ∷ replicate 30 0))
-    6 (2 ∷ 16 ∷ replicate 29 0 ++ (99 ∷ []))
+    2 (1 ∷ 3 ∷ 0 ∷ 0 ∷ 0 ∷ 0 ∷ 1 ∷ replicate 9 0 ++ (11 ∷ 0 ∷ 13 ∷ replicate 13 0)))
+    4 (4 ∷ 1 ∷ 1 ∷ 0 ∷ 0 ∷ 2 ∷ 1 ∷ replicate 9 0 ++ (21 ∷ 22 ∷ replicate 14 0)))
+    5 (4 ∷ 1 ∷ 0 ∷ 0 ∷ 0 ∷ 0 ∷ 1 ∷ replicate 25 0))
+    6 (2 ∷ 16 ∷ 0 ∷ 0 ∷ 0 ∷ 0 ∷ 1 ∷ replicate 24 0 ++ (99 ∷ []))
 
 -- the same after an F2 at the buffer memory, whose head is 1 now
 abbrev pub readOnce : List ℕ
@@ -61,7 +61,7 @@ pub scan-samples :
     × (gives crate (scan 2 1 0 4 2 sevens) .answer ≡ Transferred (record { end = 1; words = 2; cycles = 2 }))
     × (take 2 (gives crate (scan 2 1 0 4 2 sevens) .buffer) ≡ 0 ∷ 13 ∷ [])
     × (heldFrom crate 3 2 1 ≡ 0 ∷ 13 ∷ 21 ∷ [])
-unfolding blockOf withBlock inTable sourcesOf isUsed headerTests isFitHeader isFitSpare isFitRegister fitTests isFitBlock isFitRest isFitStation crateTests
+unfolding blockOf withBlock inTable sourcesOf isUsed headerTests isFitHeader isFitSpare isFitRegister fitTests isFitBlock isFitRest isFitStation isFitCover crateTests
     isFitCrate withoutOldest bufferReadOf bufferReadAndClearOf readOf readAndClearOf overwriteOf functionsOf commandOf replyOf afterCommand scanning scanFrom
     scanCycle scanNext heldIn heldFrom commandVerdict scanVerdict putVerdict putLentVerdict stepOf doneOf
 scan-samples = (refl, refl, refl, refl, refl, refl, refl, refl, refl, refl, refl, refl, refl, refl)

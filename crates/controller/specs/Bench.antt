@@ -15,23 +15,23 @@ use Rattle.transfer.specs.Scan.{scanOf}
 use Rattle.transfer.specs.Repeat.{repeatOf}
 use Rattle.transfer.specs.Stop.{stopOf}
 
--- the block of a module with one register, which holds v
+-- the block of a module one station wide with one register, which holds v
 abbrev pub holding : (kind status mask v : ℕ) → List ℕ
-holding kind status mask v = kind ∷ 1 ∷ status ∷ mask ∷ 0 ∷ 0 ∷ replicate 10 0 ++ (v ∷ replicate 15 0)
+holding kind status mask v = kind ∷ 1 ∷ status ∷ mask ∷ 0 ∷ 0 ∷ 1 ∷ replicate 9 0 ++ (v ∷ replicate 15 0)
 
--- the block of a buffer memory that holds sixteen words, 7 each, and of one that holds two
+-- the block of such a buffer memory that holds sixteen words, 7 each, and of one that holds two
 abbrev pub full : (status : ℕ) → List ℕ
-full status = 4 ∷ 1 ∷ status ∷ 0 ∷ 0 ∷ 16 ∷ replicate 10 0 ++ replicate 16 7
+full status = 4 ∷ 1 ∷ status ∷ 0 ∷ 0 ∷ 16 ∷ 1 ∷ replicate 9 0 ++ replicate 16 7
 
 abbrev pub two : List ℕ
-two = 4 ∷ 1 ∷ 1 ∷ 0 ∷ 0 ∷ 2 ∷ replicate 10 0 ++ (7 ∷ 8 ∷ replicate 14 0)
+two = 4 ∷ 1 ∷ 1 ∷ 0 ∷ 0 ∷ 2 ∷ 1 ∷ replicate 9 0 ++ (7 ∷ 8 ∷ replicate 14 0)
 
--- a scaler with sixteen registers, and a buffer memory, in station 1
+-- a scaler with sixteen registers, and a buffer memory, in station 1 and one station wide
 abbrev pub scaler : Module
-scaler = record { n = 1; kind = 1; r = 16 }
+scaler = record { n = 1; kind = 1; r = 16; wide = 1 }
 
 abbrev pub buffer : Module
-buffer = record { n = 1; kind = 4; r = 1 }
+buffer = record { n = 1; kind = 4; r = 1; wide = 1 }
 
 abbrev pub Bench : Type 0
 Bench =
@@ -68,4 +68,4 @@ BesideBench =
     -- Repeat F0 at an empty station, tries 3: 0 words, 1 cycle, end 3
     (transferOf (repeatOf emptyCrate 1 0 0 1 3) ≡ record { end = 3; words = 0; cycles = 1 })
     -- Stop F0 at A = r of a scaler: the same
-    × (transferOf (stopOf (withModule emptyCrate (record { n = 1; kind = 1; r = 2 })) 1 2 0 1) ≡ record { end = 3; words = 0; cycles = 1 })
+    × (transferOf (stopOf (withModule emptyCrate (record { n = 1; kind = 1; r = 2; wide = 1 })) 1 2 0 1) ≡ record { end = 3; words = 0; cycles = 1 })

@@ -7,3 +7,4 @@ pub mod Finished
 pub mod Scans
 pub mod NotAccepted
 pub mod Fronts
+pub mod Covered

@@ -12,7 +12,8 @@ pub fn place(memory: &mut [u32], previous: u32, held: Module) -> Verdict
     ensures { λ r. ⌜ placeOf (now (memory .entry)) previous (ModuleLine.Holds held) ≡ record { verdict = r; memory = now (memory .exit) } ⌝ }
     ensures fit { λ _. ⌜ FitCrate (now (memory .exit)) ⌝ }
 {
-    let verdict = step::judge_module(previous, held);
+    let covered = dataway::covered(memory, held.n);
+    let verdict = step::judge_module(previous, covered, held);
     match verdict {
         Verdict::Refuse(q) => Verdict::Refuse(q),
         Verdict::Fine => {

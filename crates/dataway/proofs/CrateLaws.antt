@@ -1,23 +1,25 @@
--- Laws of a fit crate memory: the test and the facts say the same, the empty crate is fit, a station's block may be replaced by a fit one, and
+-- Laws of a fit crate memory: the test and the facts say the same, the empty crate is fit, a station's block may be replaced by a fit one of the same module, and
 -- Inhibit by 0 or 1.
 -- Assumes nothing.
 use Prim.Native.Nat.{ℕ, _+_, _-_, _*_, _≤_, _<_}
-use mathlib.Core.Path.{_≡_, refl, subst, _∙_}
-use mathlib.Core.List.{List}
+use mathlib.Core.Path.{_≡_, refl, sym, ap, subst, _∙_}
+use mathlib.Core.List.{List, [], _∷_}
 use mathlib.Core.Bool.{true}
 use mathlib.Core.Logic.{⊎-elim}
 use native.Mathlib.Omega.{arith}
 use borrow.Author.Tests.{ltb-true, eqb-true, lt-ltb, eq-eqb}
-use lib.ListN.{getD, set, length-set}
+use lib.ListN.{length, getD, set, length-set}
+use lib.Dec.{ltb, eqb}
 use lib.Seq.{getD-set-same, getD-set-other}
-use Rattle.blocks.specs.Blocks.{blockOf, withBlock}
-use Rattle.blocks.proofs.Blocks.{length-with, put-other, block-same, block-other, block-of-agree}
+use Rattle.blocks.specs.Blocks.{word, blockOf, withBlock, inhibitOf}
+use Rattle.blocks.proofs.Blocks.{length-with, put-in, put-other, word-block, block-same, block-other, block-of-agree}
+use Rattle.kinds.specs.Cases.{every}
 use Rattle.kinds.specs.Table.{inTable}
 use Rattle.station.specs.Block.{FitBlock, isFitBlock, isFitHeader, headerTests, isFitSpare, isFitRegister, fitTests, isUsed, sourcesOf}
-use Rattle.kinds.proofs.TestLaws.{alike, every-at, every-intro, all-true, all-intro}
+use Rattle.kinds.proofs.TestLaws.{alike, every-at, every-intro, all-true, all-intro, last-decides}
 use Rattle.station.specs.Kept.{Kept}
 use Rattle.station.proofs.Fitness.{fit-facts, facts-fit}
-use Rattle.dataway.specs.Crate.{isFitRest, isFitStation, crateTests, isFitCrate, FitCrate, emptyCrate}
+use Rattle.dataway.specs.Crate.{isFitRest, isFitStation, coverOf, isFitCover, crateTests, isFitCrate, FitCrate, emptyCrate}
 
 -- ---- the test and the facts
 rest-zero : (m : List ℕ) (i : ℕ) → isFitRest m i ≡ true → getD m (1 + i) 0 ≡ 0
@@ -36,6 +38,14 @@ station-fits : (m : List ℕ) (i : ℕ) → FitBlock (blockOf m (1 + i)) → isF
 unfolding isFitStation
 station-fits m i h = facts-fit (blockOf m (1 + i)) h
 
+cover-facts : (m : List ℕ) (i : ℕ) → isFitCover m i ≡ true → word m (1 + i) 7 ≡ coverOf (word m i 6)
+unfolding isFitCover
+cover-facts m i h = eqb-true _ _ h
+
+cover-fits : (m : List ℕ) (i : ℕ) → word m (1 + i) 7 ≡ coverOf (word m i 6) → isFitCover m i ≡ true
+unfolding isFitCover
+cover-fits m i h = eq-eqb _ _ h
+
 -- a memory that passes the test is as the facts say
 pub crate-facts : (m : List ℕ) → isFitCrate m ≡ true → FitCrate m
 unfolding isFitCrate crateTests
@@ -48,6 +58,8 @@ crate-facts m h =
       station = λ n lo hi.
           let e : 1 + (n - 1) ≡ n = omega arith in
           subst (λ (k : ℕ). FitBlock (blockOf m k)) e (station-facts m (n - 1) (every-at 23 (isFitStation m) (n - 1) (p .1 .1 .1 .0) (omega arith)));
+      cover = λ i l. cover-facts m i (every-at 23 (isFitCover m) i (p .1 .1 .1 .1 .0) l);
+      last = ltb-true _ _ (p .1 .1 .1 .1 .1 .0);
     }
 
 -- and a memory that is so passes it
@@ -60,20 +72,40 @@ facts-crate m h =
         lt-ltb _ _ (h .inhibit),
         (
           every-intro 31 (isFitRest m) (λ i l. rest-fits m i (h .rest i l)),
-          (every-intro 23 (isFitStation m) (λ i l. station-fits m i (h .station (1 + i) (omega arith) (omega arith))), tt),
+          (
+            every-intro 23 (isFitStation m) (λ i l. station-fits m i (h .station (1 + i) (omega arith) (omega arith))),
+            (every-intro 23 (isFitCover m) (λ i l. cover-fits m i (h .cover i l)), (lt-ltb _ _ (h .last), tt)),
+          ),
         ),
       ),
     )
 
+-- where all tests but the last hold, the last decides
+pub crate-last : (m : List ℕ) → length m ≡ 768 → inhibitOf m < 2 → every 31 (isFitRest m) ≡ true → every 23 (isFitStation m) ≡ true
+    → every 23 (isFitCover m) ≡ true → ltb (word m 23 6) 2 ≡ isFitCrate m
+unfolding isFitCrate crateTests
+crate-last m size inhibit rest station cover =
+    last-decides (eqb (length m) 768 ∷ ltb (inhibitOf m) 2 ∷ every 31 (isFitRest m) ∷ every 23 (isFitStation m) ∷ every 23 (isFitCover m) ∷ []) (ltb (word m 23 6) 2)
+    (eq-eqb _ _ size, (lt-ltb _ _ inhibit, (rest, (station, (cover, tt)))))
+
 -- the empty crate is fit
 pub empty-fit : FitCrate emptyCrate
-unfolding isFitCrate crateTests isFitRest isFitStation isFitBlock fitTests isFitHeader headerTests inTable isFitSpare isFitRegister isUsed sourcesOf blockOf
+unfolding isFitCrate crateTests isFitRest isFitStation isFitCover isFitBlock fitTests isFitHeader headerTests inTable isFitSpare isFitRegister isUsed sourcesOf blockOf
 empty-fit = crate-facts emptyCrate refl
 
--- ---- one block replaced
--- by that of any module
-pub fit-new : (m : List ℕ) (n : ℕ) (b : List ℕ) → FitCrate m → 1 ≤ n → n ≤ 23 → FitBlock b → FitCrate (withBlock m n b)
-fit-new m n b f lo hi g =
+-- ---- fitness but for the covers, block by block
+pub record FitBlocks (m : List ℕ) : Type 0 where
+  pub size : length m ≡ 768
+  pub inhibit : inhibitOf m < 2
+  pub rest : (i : ℕ) → i < 31 → getD m (1 + i) 0 ≡ 0
+  pub station : (n : ℕ) → 1 ≤ n → n ≤ 23 → FitBlock (blockOf m n)
+
+pub blocks-of : (m : List ℕ) → FitCrate m → FitBlocks m
+blocks-of m f = record { size = f .size; inhibit = f .inhibit; rest = f .rest; station = f .station }
+
+-- any fit block may be put in
+pub blocks-with : (m : List ℕ) (n : ℕ) (b : List ℕ) → FitBlocks m → 1 ≤ n → n ≤ 23 → FitBlock b → FitBlocks (withBlock m n b)
+blocks-with m n b f lo hi g =
     let o : (w : ℕ) → w < 32 → getD (withBlock m n b) (32 * 0 + w) 0 ≡ getD m (32 * 0 + w) 0 =
     λ w h. put-other m n b (f .size) (omega arith) (g .long) 0 w h (λ e. omega arith) in
     record {
@@ -87,18 +119,39 @@ fit-new m n b f lo hi g =
           (alike k n);
     }
 
--- by one of the same module, as each step leaves it
+-- and with its covers the crate is fit
+pub crate-of : (m : List ℕ) → FitBlocks m → ((i : ℕ) → i < 23 → word m (1 + i) 7 ≡ coverOf (word m i 6)) → word m 23 6 < 2 → FitCrate m
+crate-of m b cover last = record { size = b .size; inhibit = b .inhibit; rest = b .rest; station = b .station; cover = cover; last = last }
+
+-- ---- the covers hang on words 6 and 7 of the blocks alone
+covers-of : (m m′ : List ℕ) → FitBlocks m′ → FitCrate m → ((n w : ℕ) → n ≤ 23 → 6 ≤ w → w < 8 → word m′ n w ≡ word m n w) → FitCrate m′
+covers-of m m′ b f same =
+    crate-of m′ b
+    (λ i h. same (1 + i) 7 (omega arith) (omega arith) (omega arith) ∙ f .cover i h ∙ ap coverOf (sym (same i 6 (omega arith) (omega arith) (omega arith))))
+    (rw (same 23 6 (omega arith) (omega arith) (omega arith)) (f .last))
+
+-- ---- one block replaced by a fit one of the same module, as each step leaves it
 pub fit-with : (m : List ℕ) (n : ℕ) (b : List ℕ) → FitCrate m → 1 ≤ n → n ≤ 23 → Kept (blockOf m n) b → FitCrate (withBlock m n b)
-fit-with m n b f lo hi kept = fit-new m n b f lo hi (kept .fit)
+fit-with m n b f lo hi kept =
+    let long = kept .fit .long in
+    covers-of m (withBlock m n b) (blocks-with m n b (blocks-of m f) lo hi (kept .fit)) f
+    (λ k w h p q.
+    ⊎-elim
+    (λ (e : k ≡ n).
+    let j : 6 + (w - 6) ≡ w = omega arith in
+    rw e (put-in m n b (f .size) (omega arith) long w (omega arith) ∙ (rw j at (kept .same .fixed (w - 6) (omega arith))) ∙ word-block m n w (omega arith)))
+    (λ (d : k ≡ n → ⊥). put-other m n b (f .size) (omega arith) long k w (omega arith) d)
+    (alike k n))
 
 -- ---- Inhibit replaced
 pub fit-inhibit : (m : List ℕ) (v : ℕ) → FitCrate m → v ≤ 1 → FitCrate (set m 0 v)
 fit-inhibit m v h l =
-    record {
+    let blocks : FitBlocks (set m 0 v) = record {
       size = length-set m 0 v ∙ h .size;
       inhibit = rw (getD-set-same m 0 v 0 (omega (arith, h .size))) (omega arith);
       rest = λ i p. getD-set-other m 0 (1 + i) v 0 (λ e. omega arith) ∙ h .rest i p;
       station = λ n p q.
           rw (block-of-agree (set m 0 v) m n (length-set m 0 v) (λ w d. getD-set-other m 0 (32 * n + w) v 0 (λ e. omega arith)))
           (h .station n p q);
-    }
+    } in
+    covers-of m (set m 0 v) blocks h (λ k w p q t. getD-set-other m 0 (32 * k + w) v 0 (λ e. omega arith))

@@ -1,7 +1,9 @@
 pub mod CrateLaws
 pub mod StationLaws
+pub mod ModuleLaws
 pub mod ControlLaws
 pub mod LamLaws
 pub mod Locality
 pub mod AskingLaws
 pub mod ReplyLaws
+pub mod CoveredLaws

@@ -1,27 +1,25 @@
 -- What reaches one station leaves a fit crate fit: the block's own law, put into the memory. And a block that was lent to the station's own function
 -- comes back as the definition at the crate says.
 -- Assumes nothing.
-use Prim.Native.Nat.{ℕ, _+_, _-_, _*_, _≤_}
-use mathlib.Core.Path.{_≡_, sym, ap, _∙_}
+use Prim.Native.Nat.{ℕ, _+_, _-_, _*_, _≤_, _<_}
+use mathlib.Core.Path.{_≡_, refl, sym, ap, _∙_}
 use mathlib.Core.List.{List}
 use native.Mathlib.Omega.{arith}
 use borrow.Rule.Slice.PartMut.{putMid, midOf}
+use lib.ListN.{length, replicate, set}
 use Rattle.blocks.specs.Blocks.{blockOf, withBlock, inhibitOf}
-use Rattle.blocks.proofs.Blocks.{part-block, part-back}
-use Rattle.kinds.specs.Table.{FitModule}
-use Rattle.kinds.specs.declared.Module.{Module}
+use Rattle.blocks.proofs.Blocks.{length-block, set-put, part-block, part-back}
 use Rattle.station.specs.Kept.{Kept}
 use Rattle.station.specs.declared.Reply.{Reply}
 use Rattle.station.specs.Outcome.{Outcome}
 use Rattle.station.specs.Command.{commandOf}
 use Rattle.station.specs.Front.{Event, frontOf}
-use Rattle.station.specs.Control.{moduleOf}
+use Rattle.station.specs.Control.{coveredBlock}
 use Rattle.station.proofs.CommandLaws.{command-kept}
 use Rattle.station.proofs.FrontLaws.{front-kept}
-use Rattle.station.proofs.ControlLaws as control
 use Rattle.dataway.specs.Crate.{FitCrate}
-use Rattle.dataway.specs.Stations.{replyOf, afterCommand, takenOf, afterFront, withModule}
-use Rattle.dataway.proofs.CrateLaws.{fit-new, fit-with}
+use Rattle.dataway.specs.Stations.{replyOf, afterCommand, takenOf, afterFront}
+use Rattle.dataway.proofs.CrateLaws.{fit-with}
 
 module _ (m : List ℕ) (n : ℕ) (h : FitCrate m) (lo : 1 ≤ n) (hi : n ≤ 23) where
   -- the block that a command leaves, and the memory
@@ -39,11 +37,6 @@ module _ (m : List ℕ) (n : ℕ) (h : FitCrate m) (lo : 1 ≤ n) (hi : n ≤ 23
   pub front-fit : (a v : ℕ) → a ≤ 15 → v ≤ 16777215 → FitCrate (afterFront m n a v)
   unfolding afterFront
   front-fit a v s l = fit-with m n (frontOf (inhibitOf m) (blockOf m n) a v .block) h lo hi (front-block a v s l)
-
--- a module put in
-pub module-fit : (m : List ℕ) (p : Module) → FitCrate m → FitModule p → FitCrate (withModule m p)
-unfolding withModule
-module-fit m p h f = fit-new m (p .n) (moduleOf p) h (f .first) (f .last) (control.module-fit p f)
 
 -- ---- a block lent, from 32 n up to 32 n + 32
 module _ (m : List ℕ) (n : ℕ) where
@@ -73,3 +66,10 @@ module _ (m : List ℕ) (n : ℕ) where
       let h : frontOf (inhibitOf m) (blockOf m n) a v ≡ record { block = b; taken = t } =
       ap (λ (x : List ℕ). frontOf (inhibitOf m) x a v) (sym (part-block m n)) ∙ e in
       (sym (ap (λ (o : Event). o .taken) h), part-back m n b ∙ sym (ap (λ (o : Event). withBlock m n (o .block)) h))
+
+  -- to what zeroes it, and then covered
+  pub cover-lent : (b : List ℕ) → length m ≡ 768 → n < 24 → b ≡ replicate (length lent) 0 → set (back b) (32 * n + 7) 1 ≡ withBlock m n coveredBlock
+  cover-lent b size l e =
+      let zeroed : back b ≡ withBlock m n (replicate 32 0) =
+      block-lent (λ (x : List ℕ). replicate (length x) 0) b e ∙ ap (λ (k : ℕ). withBlock m n (replicate k 0)) (length-block m n size l) in
+      ap (λ (x : List ℕ). set x (32 * n + 7) 1) zeroed ∙ set-put m n (replicate 32 0) 7 1 size l refl (omega arith)

@@ -3,3 +3,4 @@ pub mod Stations
 pub mod Controls
 pub mod Lam
 pub mod Asking
+pub mod Covered

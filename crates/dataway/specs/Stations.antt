@@ -1,11 +1,15 @@
--- What reaches one station of the crate (RULES 2.1, 3.1, 7.11): a command, a front event, a module put in. Each is the block's own rule, under `withBlock`.
-use Prim.Native.Nat.{ℕ}
+-- What reaches one station of the crate (RULES 2.1, 3.1): a command, a front event. Each is the block's own rule, under `withBlock`.
+-- And a module put in (RULES 7.11, 7.23).
+use Prim.Native.Nat.{ℕ, _+_, _*_}
 use mathlib.Core.List.{List}
+use mathlib.Core.Bool.{cond}
+use lib.ListN.{set}
+use lib.Dec.{eqb}
 use Rattle.blocks.specs.Blocks.{blockOf, withBlock, inhibitOf}
 use Rattle.kinds.specs.declared.Module.{Module}
 use Rattle.station.specs.Command.{commandOf}
 use Rattle.station.specs.Front.{frontOf}
-use Rattle.station.specs.Control.{moduleOf}
+use Rattle.station.specs.Control.{moduleOf, coveredBlock}
 use Rattle.station.specs.declared.Reply.{Reply}
 
 -- a command to station N: its answer X, Q and R
@@ -24,6 +28,17 @@ takenOf m n a v = frontOf (inhibitOf m) (blockOf m n) a v .taken
 unfoldable pub afterFront : List ℕ → (n a v : ℕ) → List ℕ
 afterFront m n a v = withBlock m n (frontOf (inhibitOf m) (blockOf m n) a v .block)
 
--- the memory with a module put into its station
+-- the memory with a module in the stations that it fills: its own and, where it is two stations wide, the one to its right, empty and covered
+unfoldable pub occupiedBy : List ℕ → Module → List ℕ
+occupiedBy m p =
+    cond (eqb (p .wide) 2)
+    (withBlock (withBlock m (p .n) (moduleOf p)) (p .n + 1) coveredBlock)
+    (withBlock m (p .n) (moduleOf p))
+
+-- the memory with station N covered by no module; past station 23 there is none
+abbrev pub uncovered : List ℕ → (n : ℕ) → List ℕ
+uncovered m n = set m (32 * n + 7) 0
+
+-- the memory with a module put in: what stood in the stations that it fills is taken out, and so is the cover that this laid
 unfoldable pub withModule : List ℕ → Module → List ℕ
-withModule m p = withBlock m (p .n) (moduleOf p)
+withModule m p = uncovered (occupiedBy m p) (p .n + p .wide)

@@ -3,12 +3,14 @@ ghost use mathlib.Core.Path.{_≡_};
 ghost use lib.ListN.{length};
 ghost use Prim.Native.Nat.{_<_};
 ghost use Rattle.kinds.specs.Cases.{every};
-ghost use Rattle.dataway.specs.Crate.{isFitRest, isFitStation, isFitCrate};
+ghost use Rattle.dataway.specs.Crate.{isFitRest, isFitStation, isFitCover, isFitCrate};
 use crate::INHIBIT;
 use blocks::BLOCK_WORDS;
 use blocks::MEMORY_WORDS;
 use blocks::STATIONS;
 use panel::fitness::is_fit_block;
+use station::block::COVERED;
+use station::block::WIDTH;
 
 // Block 0 after Inhibit.
 fn is_rest_zero(memory: &[u32]) -> bool
@@ -50,6 +52,35 @@ fn are_stations_fit(memory: &[u32]) -> bool
     true
 }
 
+// The cover of station 1 + i: block i is its left neighbour.
+fn is_fit_cover(memory: &[u32], i: usize) -> bool
+    requires { ⌜ length (now memory) ≡ 768 ⌝ ∗ ⌜ i < 23 ⌝ }
+    ensures { λ r. ⌜ r ≡ isFitCover (now (memory .entry)) i ⌝ }
+{
+    let left = BLOCK_WORDS * i;
+    let own = left + BLOCK_WORDS;
+    let covered = memory[own + COVERED];
+    if memory[left + WIDTH] == 2 {
+        return covered == 1;
+    }
+    covered == 0
+}
+
+// The covers of all stations.
+fn are_covers_fit(memory: &[u32]) -> bool
+    requires { ⌜ length (now memory) ≡ 768 ⌝ }
+    ensures { λ r. ⌜ r ≡ every 23 (isFitCover (now (memory .entry))) ⌝ }
+{
+    let mut i = 0;
+    while i < STATIONS {
+        if !is_fit_cover(memory, i) {
+            return false;
+        }
+        i += 1;
+    }
+    true
+}
+
 // The whole memory.
 pub fn is_fit_crate(memory: &[u32]) -> bool
     ensures { λ r. ⌜ r ≡ isFitCrate (now (memory .entry)) ⌝ }
@@ -63,5 +94,11 @@ pub fn is_fit_crate(memory: &[u32]) -> bool
     if !is_rest_zero(memory) {
         return false;
     }
-    are_stations_fit(memory)
+    if !are_stations_fit(memory) {
+        return false;
+    }
+    if !are_covers_fit(memory) {
+        return false;
+    }
+    memory[BLOCK_WORDS * STATIONS + WIDTH] < 2
 }

@@ -2,12 +2,18 @@
 // test whether the memory is fit.
 ghost use mathlib.Core.Path.{_≡_};
 ghost use Prim.Native.Nat.{_≤_};
+ghost use lib.ListN.{length};
+ghost use Rattle.blocks.specs.Blocks.{word, withBlock};
 ghost use Rattle.kinds.specs.Table.{FitModule};
+ghost use Rattle.station.specs.Control.{moduleOf, coveredBlock};
 ghost use Rattle.dataway.specs.Crate.{FitCrate};
-ghost use Rattle.dataway.specs.Stations.{replyOf, afterCommand, takenOf, afterFront, withModule};
+ghost use Rattle.dataway.specs.Stations.{replyOf, afterCommand, takenOf, afterFront, occupiedBy, uncovered, withModule};
 use blocks::BLOCK_WORDS;
+use blocks::STATIONS;
 use kinds::Module;
 use station::Reply;
+use station::block::COVERED;
+use station::block::zero;
 
 pub mod control;
 pub mod fitness;
@@ -53,13 +59,66 @@ pub fn front_event(memory: &mut [u32], n: u32, a: u32, v: u32) -> u32
     panel::front::front_event(&mut memory[from..to], inhibit, a, v)
 }
 
-// Puts a module into its station.
+// Word 7 of station n, 1 where its left neighbour covers it. What is no station is not covered.
+pub fn covered(memory: &[u32], n: u32) -> u32
+    requires { ⌜ FitCrate (now memory) ⌝ }
+    ensures { λ r. ⌜ r ≡ word (now (memory .entry)) n 7 ⌝ }
+{
+    let k = n as usize;
+    if STATIONS < k {
+        return 0;
+    }
+    memory[BLOCK_WORDS * k + COVERED]
+}
+
+// Puts a module into its own block.
+fn put_block(memory: &mut [u32], held: Module)
+    requires { ⌜ length (now memory) ≡ 768 ⌝ ∗ ⌜ held .n ≤ 23 ⌝ }
+    ensures { λ _. ⌜ now (memory .exit) ≡ withBlock (now (memory .entry)) (held .n) (moduleOf held) ⌝ }
+{
+    let from = BLOCK_WORDS * held.n as usize;
+    let to = from + BLOCK_WORDS;
+    panel::control::put_module(&mut memory[from..to], held);
+}
+
+// Leaves block n empty, and covered.
+fn cover_block(memory: &mut [u32], n: usize)
+    requires { ⌜ length (now memory) ≡ 768 ⌝ ∗ ⌜ n ≤ 23 ⌝ }
+    ensures { λ _. ⌜ now (memory .exit) ≡ withBlock (now (memory .entry)) n coveredBlock ⌝ }
+{
+    let from = BLOCK_WORDS * n;
+    let to = from + BLOCK_WORDS;
+    zero(&mut memory[from..to]);
+    memory[from + COVERED] = 1;
+}
+
+// Takes the cover from block n, if there is such a block.
+fn uncover_block(memory: &mut [u32], n: usize)
+    requires { ⌜ length (now memory) ≡ 768 ⌝ ∗ ⌜ n ≤ 24 ⌝ }
+    ensures { λ _. ⌜ now (memory .exit) ≡ uncovered (now (memory .entry)) n ⌝ }
+{
+    if n <= STATIONS {
+        memory[BLOCK_WORDS * n + COVERED] = 0;
+    }
+}
+
+// Puts a module into the stations that it fills.
+fn occupy(memory: &mut [u32], held: Module)
+    requires { ⌜ length (now memory) ≡ 768 ⌝ ∗ ⌜ FitModule held ⌝ }
+    ensures { λ _. ⌜ now (memory .exit) ≡ occupiedBy (now (memory .entry)) held ⌝ }
+{
+    put_block(memory, held);
+    if held.wide == 2 {
+        cover_block(memory, held.n as usize + 1);
+    }
+}
+
+// Puts a module in, over whatever stood there.
 pub fn put_module(memory: &mut [u32], held: Module)
     requires { ⌜ FitCrate (now memory) ⌝ }
     requires { ⌜ FitModule held ⌝ }
     ensures { λ _. ⌜ now (memory .exit) ≡ withModule (now (memory .entry)) held ⌝ }
 {
-    let from = BLOCK_WORDS * held.n as usize;
-    let to = from + BLOCK_WORDS;
-    panel::control::put_module(&mut memory[from..to], held);
+    occupy(memory, held);
+    uncover_block(memory, held.n as usize + held.wide as usize);
 }

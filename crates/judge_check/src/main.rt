@@ -124,15 +124,23 @@ fn put_lent(lent: usize, at: usize, w: u32, n: u32, a: u32, to: u32, limit: u32)
     );
 }
 
-fn module(previous: u32, n: u32, kind: u32, r: u32) {
+// A crate line after one for the station `previous`, in a station whose word 7 is `covered`.
+fn crate_line(previous: u32, covered: u32, n: u32, kind: u32, r: u32, wide: u32) {
     show(step::judge_module(
         previous,
+        covered,
         Module {
             n: n,
             kind: kind,
             r: r,
+            wide: wide,
         },
     ));
+}
+
+// A module one station wide, in a station that is not covered.
+fn module(previous: u32, n: u32, kind: u32, r: u32) {
+    crate_line(previous, 0, n, kind, r, 1);
 }
 
 fn commands() {
@@ -281,6 +289,69 @@ fn lent_puts() {
     put_lent(0, 0, 0, 5, 15, 23, 1);
 }
 
+fn four_widths(kind: u32, r: u32) {
+    crate_line(4, 0, 5, kind, r, 0);
+    crate_line(4, 0, 5, kind, r, 1);
+    crate_line(4, 0, 5, kind, r, 2);
+    crate_line(4, 0, 5, kind, r, 3);
+}
+
+fn widths() {
+    four_widths(1, 16);
+    four_widths(2, 16);
+    four_widths(3, 16);
+    four_widths(4, 1);
+    four_widths(5, 16);
+    // an empty station, a kind past the table, an r that its kind has not: no width mends them
+    four_widths(0, 0);
+    four_widths(6, 1);
+    four_widths(4, 2);
+    crate_line(4, 0, 5, 1, 1, 4294967295);
+}
+
+fn last_stations() {
+    crate_line(21, 0, 22, 1, 1, 1);
+    crate_line(21, 0, 22, 1, 1, 2);
+    crate_line(22, 0, 23, 1, 1, 1);
+    crate_line(22, 0, 23, 1, 1, 2);
+    crate_line(22, 0, 23, 1, 1, 3);
+    crate_line(0, 0, 1, 1, 1, 2);
+    crate_line(0, 0, 0, 1, 1, 2);
+    crate_line(23, 0, 24, 1, 1, 2);
+    // the sum of station and width is past 32 bits
+    crate_line(0, 0, 4294967294, 1, 1, 2);
+    crate_line(0, 0, 4294967295, 1, 1, 2);
+    crate_line(0, 0, 4294967295, 1, 1, 4294967295);
+    crate_line(0, 0, 2, 1, 1, 4294967295);
+}
+
+fn covers() {
+    // right of a module two stations wide in 5: station 6 whatever its module is, station 6 after a line for 8, station 7
+    crate_line(5, 1, 6, 1, 1, 1);
+    crate_line(5, 1, 6, 1, 1, 2);
+    crate_line(5, 1, 6, 0, 1, 1);
+    crate_line(5, 1, 6, 1, 17, 1);
+    crate_line(5, 1, 6, 1, 1, 0);
+    crate_line(5, 1, 6, 1, 1, 3);
+    crate_line(8, 1, 6, 1, 1, 1);
+    crate_line(5, 0, 7, 1, 1, 1);
+    // right of one in 22
+    crate_line(22, 1, 23, 1, 1, 1);
+    crate_line(22, 1, 23, 1, 1, 2);
+    // a word 7 that no fit crate has
+    crate_line(5, 4294967295, 6, 1, 1, 1);
+}
+
+fn cover_orders() {
+    // one fault fewer each time: the station, the order, the cover, the module
+    crate_line(9, 1, 0, 0, 0, 3);
+    crate_line(9, 1, 24, 0, 0, 3);
+    crate_line(9, 1, 9, 0, 0, 3);
+    crate_line(9, 1, 10, 0, 0, 3);
+    crate_line(9, 0, 10, 0, 0, 3);
+    crate_line(9, 0, 10, 1, 1, 2);
+}
+
 fn main() {
     // the two that no field decides
     show(Verdict::Refuse(Refusal::Garbled));
@@ -296,4 +367,8 @@ fn main() {
     modules();
     puts();
     lent_puts();
+    widths();
+    last_stations();
+    covers();
+    cover_orders();
 }

@@ -2,7 +2,7 @@
 -- Assumes nothing.
 use Prim.Native.Nat.{ℕ, zero, suc, _+_, _<_}
 use mathlib.Core.Path.{_≡_, refl, sym, ap, _∙_}
-use mathlib.Core.List.{List, [], _∷_}
+use mathlib.Core.List.{List, [], _∷_, _++_}
 use mathlib.Core.Bool.{Bool, true, false, cond, _&&_, _||_, true≢false}
 use mathlib.Core.Logic.{⊎-elim, _⊎_, inl, inr}
 use native.Mathlib.Omega.{arith}
@@ -78,6 +78,11 @@ all-true (t ∷ ts) h = (both-fst t (allOf ts) h, all-true ts (both-snd t (allOf
 pub all-intro : (ts : List Bool) → AllTrue ts → allOf ts ≡ true
 all-intro [] h = refl
 all-intro (t ∷ ts) h = simp (h .0) (all-intro ts (h .1))
+
+-- where all tests but the last hold, the last decides
+pub last-decides : (ts : List Bool) (t : Bool) → AllTrue ts → t ≡ allOf (ts ++ (t ∷ []))
+last-decides [] t h = sym (both-true t)
+last-decides (u ∷ ts) t h = rw (h .0) (last-decides ts t (h .1))
 
 -- ---- a number of a list
 pub one-of-only : (x y : ℕ) → isOneOf x (y ∷ []) ≡ true → x ≡ y

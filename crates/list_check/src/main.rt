@@ -349,11 +349,23 @@ fn two_lists(case: u32, memory: &[u32], x: u32, steps: &[u32]) {
     }
 }
 
-fn module(case: u32, memory: &[u32], previous: u32, line: &[u8]) {
+// Words 0 to 7 of station n and of the two stations to its right; nothing where n is 0.
+fn show_stations(memory: &[u32], n: u32) {
+    if 0 < n {
+        let at = 32 * n as usize;
+        show_words(b" ;", memory, at, at + 8);
+        show_words(b" ;", memory, at + 32, at + 40);
+        show_words(b" ;", memory, at + 64, at + 72);
+    }
+}
+
+// The verdict on a crate line after one for station `previous`, what it leaves in station n and to its right, and how many words it changed.
+fn module(case: u32, memory: &[u32], previous: u32, n: u32, line: &[u8]) {
     let mut m = [0u32; 768];
     copy(memory, &mut m);
     let verdict = rehearsal::crate_line(&mut m, previous, line);
     show_verdict(case, number(verdict));
+    show_stations(&m, n);
     show_changes(b" memory=", memory, &m);
     end_line();
 }
@@ -407,7 +419,7 @@ fn do_call(op: u8, numbers: &[u32], text: &[u8], memory: &mut [u32], steps: &[u3
             two_lists(case, memory, word(numbers, 2), steps);
         }
         b'C' => {
-            module(case, memory, word(numbers, 2), text);
+            module(case, memory, word(numbers, 2), word(numbers, 3), text);
         }
         _ => {}
     }

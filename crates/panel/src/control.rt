@@ -6,6 +6,7 @@ ghost use Rattle.station.specs.Control.{initializedOf, clearedOf, moduleOf};
 use kinds::Module;
 use station::block::COUNT;
 use station::block::KIND;
+use station::block::WIDTH;
 use station::block::zero;
 use station::block::zero_module;
 
@@ -30,7 +31,7 @@ pub fn clear(b: &mut [u32])
     }
 }
 
-// Puts a module in: its kind and its register count, all else 0.
+// Puts a module in: its kind, its register count and its width, all else 0.
 pub fn put_module(b: &mut [u32], held: Module)
     requires { ⌜ length (now b) ≡ 32 ⌝ }
     ensures { λ _. ⌜ now (b .exit) ≡ moduleOf held ⌝ }
@@ -38,4 +39,5 @@ pub fn put_module(b: &mut [u32], held: Module)
     zero(b);
     b[KIND] = held.kind;
     b[COUNT] = held.r;
+    b[WIDTH] = held.wide;
 }

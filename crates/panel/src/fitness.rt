@@ -7,8 +7,10 @@ ghost use Rattle.station.specs.Block.{headOf, isUsed, isFitHeader, isFitSpare, 
 use kinds::BUFFER_MEMORY;
 use kinds::in_table;
 use kinds::last_head;
+use kinds::most_covered;
 use kinds::most_fill;
 use station::block::COUNT;
+use station::block::COVERED;
 use station::block::FILL;
 use station::block::HEAD;
 use station::block::KIND;
@@ -16,16 +18,17 @@ use station::block::MASK;
 use station::block::REGISTERS;
 use station::block::SPARE;
 use station::block::STATUS;
+use station::block::WIDTH;
 use station::block::sources;
 use word24::word::fits_bits;
 
-// Words 0 to 5.
+// Words 0 to 7.
 fn is_fit_header(b: &[u32]) -> bool
     requires { ⌜ length (now b) ≡ 32 ⌝ }
     ensures { λ r. ⌜ r ≡ isFitHeader (now (b .entry)) ⌝ }
 {
     let kind = b[KIND];
-    if !in_table(kind, b[COUNT]) {
+    if !in_table(kind, b[COUNT], b[WIDTH]) {
         return false;
     }
     let s = sources(b);
@@ -38,16 +41,19 @@ fn is_fit_header(b: &[u32]) -> bool
     if last_head(kind) < b[HEAD] {
         return false;
     }
-    b[FILL] <= most_fill(kind)
+    if most_fill(kind) < b[FILL] {
+        return false;
+    }
+    b[COVERED] <= most_covered(kind)
 }
 
-// Words 6 to 15.
+// Words 8 to 15.
 fn are_spares_zero(b: &[u32]) -> bool
     requires { ⌜ length (now b) ≡ 32 ⌝ }
-    ensures { λ r. ⌜ r ≡ every 10 (isFitSpare (now (b .entry))) ⌝ }
+    ensures { λ r. ⌜ r ≡ every 8 (isFitSpare (now (b .entry))) ⌝ }
 {
     let mut i = 0;
-    while i < 10 {
+    while i < 8 {
         if b[SPARE + i] != 0 {
             return false;
         }

@@ -117,6 +117,7 @@ fn show_module(module: Module) {
     show_field(b"Module n=", module.n);
     show_field(b" kind=", module.kind);
     show_field(b" r=", module.r);
+    show_field(b" wide=", module.wide);
 }
 
 fn show_module_line(line: ModuleLine) {

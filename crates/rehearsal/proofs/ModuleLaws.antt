@@ -4,7 +4,8 @@ use Prim.Native.Nat.{ℕ}
 use mathlib.Core.Path.{_≡_, sym, ap}
 use mathlib.Core.Bool.{true, false}
 use mathlib.Core.List.{List}
-use Rattle.dataway.specs.Crate.{isFitCrate}
+use Rattle.dataway.specs.Crate.{isFitCrate, FitCrate}
+use Rattle.dataway.proofs.CrateLaws.{facts-crate}
 use Rattle.step.specs.Refusals.{verdictNumber}
 use Rattle.step.specs.declared.Refusal.{Refusal}
 use Rattle.step.specs.declared.Refusal.the-variants.{UnfitCrate}
@@ -12,6 +13,7 @@ use Rattle.step.specs.declared.ModuleLine.{ModuleLine}
 use Rattle.step.specs.declared.ModuleLine.the-variants.{Bad}
 use Rattle.step.specs.declared.Verdict.{Verdict}
 use Rattle.controller.specs.Placing.{Installed, uninstalled, placeOf}
+use Rattle.controller.proofs.PlacingLaws.{place-fit}
 use Rattle.rehearsal.specs.Modules.{installOf}
 
 module _ (m : List ℕ) (previous : ℕ) where
@@ -31,3 +33,8 @@ module _ (m : List ℕ) (previous : ℕ) where
   pub install-numbered : (l : ModuleLine) (v : Verdict) (m′ : List ℕ) → installOf m previous l ≡ record { verdict = v; memory = m′ }
       → (installOf m previous l ≡ record { verdict = v; memory = m′ }) × (verdictNumber v ≡ verdictNumber (installOf m previous l .verdict))
   install-numbered l v m′ e = (e, ap (λ (i : Installed). verdictNumber (i .verdict)) (sym e))
+
+  -- a fit crate stays fit
+  pub install-stays : (l : ModuleLine) → FitCrate m → FitCrate (installOf m previous l .memory)
+  unfolding installOf
+  install-stays l f = rw (facts-crate m f) (place-fit m previous l f)

@@ -1,4 +1,4 @@
--- A crate line (RULES 6.19, 7.11): the memory with its module in it, or its refusal. First 9, then 1, 2, 11, 10; a refusal changes nothing.
+-- A crate line (RULES 6.19, 7.11, 7.23): the memory with its module in it, or its refusal. First 9, then 1, 2, 11, 12, 10; a refusal changes nothing.
 use Prim.Native.Nat.{ℕ}
 use mathlib.Core.Bool.{cond}
 use mathlib.Core.List.{List}

@@ -10,7 +10,7 @@ use step::ModuleLine;
 use step::Refusal;
 use step::Verdict;
 
-// One line of a crate file, after a line for the station `previous` (0 before the first): 9, then 1, 2, 11, 10, else the module is put in.
+// One line of a crate file, after a line for the station `previous` (0 before the first): 9, then 1, 2, 11, 12, 10, else the module is put in.
 // `number` tells the verdict by its number, 0 where nothing is sent back.
 pub fn crate_line(memory: &mut [u32], previous: u32, line: &[u8]) -> Verdict
     ensures placed { λ r. ⌜ installOf (now (memory .entry)) previous (readModule (now (line .entry))) ≡ record { verdict = r; memory = now (memory .exit) } ⌝ }

@@ -42,13 +42,14 @@ module-is-text l p =
     and-module (bytes "n=") l _ p λ n r₁ hl hn.
     and-module (bytes " kind=") r₁ _ p λ kind r₂ h₁ hk.
     and-module (bytes " r=") r₂ _ p λ r r₃ h₂ hr.
-    and-module-ended l r₃ (record { n = n; kind = kind; r = r }) p λ hz.
-    (rw (h₁, h₂, hz) at hl, (hn, hk, hr))
+    and-module (bytes " wide=") r₃ _ p λ wide r₄ h₃ hw.
+    and-module-ended l r₄ (record { n = n; kind = kind; r = r; wide = wide }) p λ hz.
+    (rw (h₁, h₂, h₃, hz) at hl, (hn, hk, hr, hw))
 
 -- the text of a module is read as the module
 pub text-is-module : (p : Module) → ModuleFits p → readModule (moduleText p) ≡ Holds p
 unfolding readModule moduleText
-text-is-module p h = rw (read-number (p .n) _ (h .0), read-number (p .kind) _ (h .1), read-number (p .r) _ (h .2))
+text-is-module p h = rw (read-number (p .n) _ (h .0), read-number (p .kind) _ (h .1), read-number (p .r) _ (h .2), read-number (p .wide) _ (h .3))
 
 -- a bad reading has the one number, garbled
 abbrev OnlyGarbled : ModuleLine → Type 0
@@ -69,7 +70,8 @@ only-garbled l =
     only-then (readField (bytes "n=") l) _ λ n r₁.
     only-then (readField (bytes " kind=") r₁) _ λ kind r₂.
     only-then (readField (bytes " r=") r₂) _ λ r r₃.
-    only-ended r₃ (record { n = n; kind = kind; r = r })
+    only-then (readField (bytes " wide=") r₃) _ λ wide r₄.
+    only-ended r₄ (record { n = n; kind = kind; r = r; wide = wide })
 
 pub reads-module : (l : List ℕ) → ReadsModule l (readModule l)
 reads-module l = go (readModule l) refl (only-garbled l)
@@ -90,10 +92,12 @@ reads-module-only l (Bad q) h = go (readModule l) refl (reads-module l)
     go (Holds p) e o = absurd (h .1 p o)
     go (Bad q′) e o = ap Bad (h .0 ∙ sym (o .0)) ∙ sym e
 
--- a line in form has 35 bytes at most
-pub longest-module : (p : Module) → ModuleFits p → length (moduleText p) ≤ 35
+-- a line in form has 49 bytes at most
+pub longest-module : (p : Module) → ModuleFits p → length (moduleText p) ≤ 49
 unfolding moduleText
-longest-module p h = simp length-append (omega (arith, length-eight (p .n) (h .0), length-eight (p .kind) (h .1), length-eight (p .r) (h .2)))
+longest-module p h =
+    simp length-append
+    (omega (arith, length-eight (p .n) (h .0), length-eight (p .kind) (h .1), length-eight (p .r) (h .2), length-eight (p .wide) (h .3)))
 
 pub short-module : (p : Module) → ModuleFits p → length (moduleText p) ≤ 80
 short-module p h = omega (arith, longest-module p h)

@@ -32,7 +32,7 @@ text (PutLent n a to limit) = []  -- it has no line: `FieldsFit` is false of it
 
 -- the line of a module
 unfoldable pub moduleText : Module → List ℕ
-moduleText p = fieldThen "n=" (p .n) (fieldThen " kind=" (p .kind) (fieldThen " r=" (p .r) []))
+moduleText p = fieldThen "n=" (p .n) (fieldThen " kind=" (p .kind) (fieldThen " r=" (p .r) (fieldThen " wide=" (p .wide) [])))
 
 -- a number of at most eight digits
 abbrev pub Small : ℕ → Type 0
@@ -53,13 +53,13 @@ FieldsFit (Put n a to limit w) = Small n × Small a × Small to × Small limit �
 FieldsFit (PutLent n a to limit) = ⊥
 
 abbrev pub ModuleFits : Module → Type 0
-ModuleFits p = Small (p .n) × Small (p .kind) × Small (p .r)
+ModuleFits p = Small (p .n) × Small (p .kind) × Small (p .r) × Small (p .wide)
 
 -- the line l is in form, and says s. Such a line has 72 bytes at most (a Repeat; a put 66), so a line over 80 bytes is in no form.
 abbrev pub IsText : List ℕ → Step → Type 0
 IsText l s = (l ≡ text s) × FieldsFit s
 
--- such a line has 35 bytes at most
+-- such a line has 49 bytes at most
 abbrev pub IsModuleText : List ℕ → Module → Type 0
 IsModuleText l p = (l ≡ moduleText p) × ModuleFits p
 

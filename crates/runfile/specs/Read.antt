@@ -1,6 +1,6 @@
 -- A reader of lines that computes, by recursive descent. It need not be believed: `reads` proves that each reading claims what `Lines`
 -- says of it, and `reads-only` that no other reading does. A line over 80 bytes is garbled (`long-is-garbled`) with no test of its
--- length, since the longest line in form has 72 bytes.
+-- length, since the longest run line in form has 72 bytes and the longest crate line 49.
 use Prim.Native.Nat.{ℕ, _+_, _-_, _*_}
 use mathlib.Core.Bool.{Bool, true, false, cond, _&&_}
 use mathlib.Core.List.{List, [], _∷_}
@@ -176,10 +176,11 @@ abbrev pub endedModule : List ℕ → Module → ModuleLine
 endedModule [] p = Holds p
 endedModule (b ∷ l) p = Spoilt Garbled
 
--- a line of a crate file: n= kind= r=
+-- a line of a crate file: n= kind= r= wide=
 unfoldable pub readModule : List ℕ → ModuleLine
 readModule l =
     andModule (readField (bytes "n=") l) λ n l1.
     andModule (readField (bytes " kind=") l1) λ kind l2.
     andModule (readField (bytes " r=") l2) λ r l3.
-    endedModule l3 (record { n = n; kind = kind; r = r })
+    andModule (readField (bytes " wide=") l3) λ wide l4.
+    endedModule l4 (record { n = n; kind = kind; r = r; wide = wide })

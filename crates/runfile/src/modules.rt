@@ -19,7 +19,7 @@ fn end_module_at(line: &[u8], at: usize, found: Module) -> ModuleLine
     }
 }
 
-// n= kind= r=
+// n= kind= r= wide=
 pub fn read_fields(line: &[u8]) -> ModuleLine
     ensures { λ r. ⌜ r ≡ readModule (now (line .entry)) ⌝ }
 {
@@ -44,13 +44,21 @@ pub fn read_fields(line: &[u8]) -> ModuleLine
     else {
         return ModuleLine::Bad(Refusal::Garbled);
     };
+    let Number::Value {
+        value: wide,
+        next: after_wide,
+    } = field_at(line, after_r, b" wide=")
+    else {
+        return ModuleLine::Bad(Refusal::Garbled);
+    };
     end_module_at(
         line,
-        after_r,
+        after_wide,
         Module {
             n: n,
             kind: kind,
             r: r,
+            wide: wide,
         },
     )
 }

@@ -15,17 +15,23 @@ use lib.Pow.{pow-lt}
 use lib.Bits.{or-lt}
 use Rattle.word24.specs.Word.{clearBits, setBits}
 use Rattle.word24.proofs.BitLaws.{clear-le}
-use Rattle.station.specs.Block.{kindOf, countOf, statusOf, maskOf, headOf, fillOf, fixedOf, registerOf, withStatus, withMask, withHead}
-use Rattle.station.specs.Block.{withFill, withRegister, setStatusBit, setStatusBitWhen, zeroedOf, sourcesOf, isUsed, FitBlock}
+use Rattle.station.specs.Block.{kindOf, countOf, statusOf, maskOf, headOf, fillOf, fixedOf, spareOf, registerOf, withStatus, withMask, withHead}
+use Rattle.station.specs.Block.{widthOf, coveredOf, withFill, withRegister, setStatusBit, setStatusBitWhen, zeroedOf, sourcesOf, isUsed, FitBlock}
 use Rattle.station.specs.Kept.{SameModule, Kept}
-use Rattle.kinds.specs.Table.{lastHeadOf, mostFillOf}
+use Rattle.kinds.specs.Table.{lastHeadOf, mostFillOf, mostCoveredOf}
 use Rattle.kinds.proofs.TestLaws.{by-cases, alike}
 use Rattle.kinds.proofs.TableLaws.{head-few, fill-few}
 
 -- ---- the same module
-pub sources-same : {b c : List ℕ} → SameModule b c → sourcesOf c ≡ sourcesOf b
+sources-as : (b c : List ℕ) → kindOf c ≡ kindOf b → countOf c ≡ countOf b → sourcesOf c ≡ sourcesOf b
 unfolding sourcesOf
-sources-same s = rw (s .kind, s .count)
+sources-as b c k r = rw (k, r)
+
+pub sources-same : {b c : List ℕ} → SameModule b c → sourcesOf c ≡ sourcesOf b
+sources-same {b} {c} s = sources-as b c (s .kind) (s .count)
+
+spare-same : {b c : List ℕ} → SameModule b c → (i : ℕ) → i < 8 → spareOf c i ≡ spareOf b i
+spare-same s i h = let e : 8 + i ≡ 6 + (2 + i) = omega arith in rw e (s .fixed (2 + i) (omega arith))
 
 pub kept-here : {b : List ℕ} → FitBlock b → Kept b b
 kept-here f = record { fit = f; same = record { kind = refl; count = refl; fixed = λ i h. refl } }
@@ -40,32 +46,42 @@ kept-then p q = record {
   };
 }
 
+-- a block with the kind, r and width of a fit one is fit, if the rest is as such a module may have it
+fit-as : (b c : List ℕ) → FitBlock b → length c ≡ length b → kindOf c ≡ kindOf b → countOf c ≡ countOf b → widthOf c ≡ widthOf b
+    → coveredOf c ≤ mostCoveredOf (kindOf b) → ((i : ℕ) → i < 8 → spareOf c i ≡ 0)
+    → statusOf c < 2 ^ sourcesOf b → maskOf c < 2 ^ sourcesOf b → headOf c ≤ lastHeadOf (kindOf b) → fillOf c ≤ mostFillOf (kindOf b)
+    → ((i : ℕ) → i < 16 → registerOf c i < 2 ^ 24) → ((i : ℕ) → i < 16 → isUsed c i ≡ false → registerOf c i ≡ 0) → FitBlock c
+fit-as b c f long k r width cover spare status mask head fill register unused =
+    let s : sourcesOf c ≡ sourcesOf b = sources-as b c k r in
+    record {
+      long = long ∙ f .long;
+      kind = rw k (f .kind);
+      least = rw (k, r) (f .least);
+      most = rw (k, r) (f .most);
+      status = rw s status;
+      mask = rw s mask;
+      lastHead = rw k head;
+      mostFill = rw k fill;
+      leastWidth = rw (k, width) (f .leastWidth);
+      mostWidth = rw (k, width) (f .mostWidth);
+      mostCovered = rw k cover;
+      spare = spare;
+      register = register;
+      unused = unused;
+      sources = rw s (f .sources);
+      head = omega (arith, head-few (kindOf b));
+      fill = omega (arith, fill-few (kindOf b));
+    }
+
 -- a block of the same module as a fit one is fit, if status, mask, head, fill and registers are
 pub kept-by : {b c : List ℕ} → FitBlock b → SameModule b c → length c ≡ length b
     → statusOf c < 2 ^ sourcesOf b → maskOf c < 2 ^ sourcesOf b → headOf c ≤ lastHeadOf (kindOf b) → fillOf c ≤ mostFillOf (kindOf b)
     → ((i : ℕ) → i < 16 → registerOf c i < 2 ^ 24) → ((i : ℕ) → i < 16 → isUsed c i ≡ false → registerOf c i ≡ 0) → Kept b c
-kept-by {b} {c} f same long status mask head fill register unused =
-    let s = sources-same same in
-    let k = same .kind in
-    record {
-      same = same;
-      fit = record {
-        long = long ∙ f .long;
-        kind = omega arith;
-        least = rw (k, same .count) (f .least);
-        most = rw (k, same .count) (f .most);
-        status = rw s status;
-        mask = rw s mask;
-        lastHead = rw k head;
-        mostFill = rw k fill;
-        spare = λ i h. same .fixed i h ∙ f .spare i h;
-        register = register;
-        unused = unused;
-        sources = rw s (f .sources);
-        head = omega (arith, head-few (kindOf b));
-        fill = omega (arith, fill-few (kindOf b));
-      };
-    }
+kept-by {b} {c} f same long status mask head fill register unused = record {
+  same = same;
+  fit = fit-as b c f long (same .kind) (same .count) (same .fixed 0 (omega arith)) (rw (same .fixed 1 (omega arith)) (f .mostCovered))
+      (λ i h. spare-same same i h ∙ f .spare i h) status mask head fill register unused;
+}
 
 -- ---- one store
 -- word j after a store of v at k, both below a bound before
@@ -85,9 +101,9 @@ same-set b k v lo apart = record {
 }
 
 -- which places are used hangs on the module, the head and the fill
-used-same : (b c : List ℕ) (i : ℕ) → SameModule b c → headOf c ≡ headOf b → fillOf c ≡ fillOf b → isUsed c i ≡ isUsed b i
+used-same : (b c : List ℕ) (i : ℕ) → kindOf c ≡ kindOf b → countOf c ≡ countOf b → headOf c ≡ headOf b → fillOf c ≡ fillOf b → isUsed c i ≡ isUsed b i
 unfolding isUsed
-used-same b c i s h f = rw (s .kind, s .count, h, f)
+used-same b c i k r h f = rw (k, r, h, f)
 
 -- status (word 2) or mask (word 3)
 pub kept-lam : (b : List ℕ) (k v : ℕ) → FitBlock b → 2 ≤ k → k < 4 → v < 2 ^ sourcesOf b → Kept b (set b k v)
@@ -102,7 +118,7 @@ kept-lam b k v f lo hi h =
     (rw h₄ (f .lastHead))
     (rw h₅ (f .mostFill))
     (λ i t. rw (o (16 + i) (λ e. omega arith)) (f .register i t))
-    (λ i t e. o (16 + i) (λ e. omega arith) ∙ f .unused i t (sym (used-same b (set b k v) i s h₄ h₅) ∙ e))
+    (λ i t e. o (16 + i) (λ e. omega arith) ∙ f .unused i t (sym (used-same b (set b k v) i (s .kind) (s .count) h₄ h₅) ∙ e))
 
 pub kept-status : (b : List ℕ) (v : ℕ) → FitBlock b → v < 2 ^ sourcesOf b → Kept b (withStatus b v)
 kept-status b v f h = kept-lam b 2 v f (omega arith) (omega arith) h
@@ -136,7 +152,7 @@ kept-register b a v f s n l h =
     let m : SameModule b c = same-set b (16 + a) v (omega arith) (λ i t e. omega arith) in
     let h₄ = o 4 (λ e. omega arith) in
     let h₅ = o 5 (λ e. omega arith) in
-    let u : (i : ℕ) → isUsed c i ≡ isUsed b i = λ i. used-same b c i m h₄ h₅ in
+    let u : (i : ℕ) → isUsed c i ≡ isUsed b i = λ i. used-same b c i (m .kind) (m .count) h₄ h₅ in
     kept-by f m (length-set b (16 + a) v)
     (rw (o 2 (λ e. omega arith)) (f .status))
     (rw (o 3 (λ e. omega arith)) (f .mask))
@@ -148,6 +164,27 @@ kept-register b a v f s n l h =
     (λ (q : i ≡ a). absurd (true≢false (sym (rw q (used-below b a n l)) ∙ sym (u i) ∙ e)))
     (λ (q : i ≡ a → ⊥). o (16 + i) (λ w. q (omega arith)) ∙ f .unused i t (sym (u i) ∙ e))
     (alike i a))
+
+-- ---- a block with its cover taken away
+abbrev pub withoutCover : List ℕ → List ℕ
+withoutCover b = set b 7 0
+
+pub fit-uncovered : (b : List ℕ) → FitBlock b → FitBlock (withoutCover b)
+fit-uncovered b f =
+    let o : (j : ℕ) → (j ≡ 7 → ⊥) → getD (withoutCover b) j 0 ≡ getD b j 0 = λ j n. getD-set-other b 7 j 0 0 n in
+    let h₀ = o 0 (λ e. omega arith) in
+    let h₁ = o 1 (λ e. omega arith) in
+    let h₄ = o 4 (λ e. omega arith) in
+    let h₅ = o 5 (λ e. omega arith) in
+    fit-as b (withoutCover b) f (length-set b 7 0) h₀ h₁ (o 6 (λ e. omega arith))
+    (rw (getD-set-same b 7 0 0 (omega (arith, f .long))) (omega arith))
+    (λ i t. o (8 + i) (λ e. omega arith) ∙ f .spare i t)
+    (rw (o 2 (λ e. omega arith)) (f .status))
+    (rw (o 3 (λ e. omega arith)) (f .mask))
+    (rw h₄ (f .lastHead))
+    (rw h₅ (f .mostFill))
+    (λ i t. rw (o (16 + i) (λ e. omega arith)) (f .register i t))
+    (λ i t e. o (16 + i) (λ e. omega arith) ∙ f .unused i t (sym (used-same b (withoutCover b) i h₀ h₁ h₄ h₅) ∙ e))
 
 -- ---- a buffer memory with place p holding v, and a new head and fill
 abbrev pub moved : List ℕ → (p v head fill : ℕ) → List ℕ

@@ -380,9 +380,9 @@ unfolding admits
 none-accept kind f e b a w fit k =
     admitted b fit a f w .outside (ap (λ (class : Class). admits class a (countOf b) (sourcesOf b)) (ap (λ (n : ℕ). classOf n f) k ∙ e))
 
--- a module with one register
+-- a module with one register, one station wide
 abbrev sample : ℕ → Module
-sample kind = record { n = 1; kind = kind; r = 1 }
+sample kind = record { n = 1; kind = kind; r = 1; wide = 1 }
 
 -- a subaddress of each class, of such a module just put in
 abbrev placeOf : Class → ℕ
@@ -415,10 +415,19 @@ all-placed : every 6 (λ kind. every 32 (placed kind)) ≡ true
 unfolding classOf admits
 all-placed = refl
 
--- a kind that has a class is no empty station, and may have one register
-sample-table : (kind f : ℕ) → kind < 6 → (classOf kind f ≡ None → ⊥) → inTable kind 1 ≡ true
-unfolding classOf inTable
-sample-table zero f l n = absurd (n (simp both-false))
+-- an empty station has class none at every function
+pub empty-class : (f : ℕ) → classOf 0 f ≡ None
+unfolding classOf
+empty-class f = simp both-false
+
+-- a kind that has a class is no empty station, and may have one register and be one station wide
+sample-some : (kind f : ℕ) → (classOf kind f ≡ None → ⊥) → 1 ≤ kind
+sample-some zero f n = absurd (n (empty-class f))
+sample-some (suc kind) f n = omega arith
+
+sample-table : (kind f : ℕ) → kind < 6 → (classOf kind f ≡ None → ⊥) → inTable kind 1 1 ≡ true
+unfolding inTable
+sample-table zero f l n = absurd (n (empty-class f))
 sample-table (suc zero) f l n = refl
 sample-table (suc (suc zero)) f l n = refl
 sample-table (suc (suc (suc zero))) f l n = refl
@@ -439,7 +448,7 @@ one-accepts : (kind f : ℕ) → kind < 6 → f < 32 → (classOf kind f ≡ Non
 unfolding sourcesOf
 one-accepts kind f l m n =
     let class = classOf kind f in
-    let fit = module-fit (sample kind) (record { first = omega arith; last = omega arith; table = sample-table kind f l n }) in
+    let fit = module-fit (sample kind) (record { first = omega arith; last = omega arith; kind = sample-some kind f n; table = sample-table kind f l n; room = λ two. omega arith }) in
     let here = every-at 32 (placed kind) f (every-at 6 (λ k. every 32 (placed k)) kind all-placed l) m in
     record {
       block = moduleOf (sample kind);

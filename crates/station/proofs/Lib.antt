@@ -7,3 +7,4 @@ pub mod ControlLaws
 pub mod AnswerLaws
 pub mod HeldLaws
 pub mod ClassLaws
+pub mod EmptyLaws

@@ -1,4 +1,4 @@
--- The block of one station (RULES 1.4, 1.5, 1.8 to 1.13): its 32 words, and when a block is fit.
+-- The block of one station (RULES 1.4, 1.5, 1.8 to 1.15): its 32 words, and when a block is fit.
 use Prim.Native.Nat.{ℕ, _+_, _-_, _<_, _≤_, _^_, _%_}
 use mathlib.Core.Path.{_≡_}
 use mathlib.Core.List.{List, [], _∷_, _++_}
@@ -8,7 +8,7 @@ use lib.Dec.{leb, ltb, eqb}
 use lib.Bits.{bitAnd}
 use Rattle.word24.specs.Word.{setBits, clearBits}
 use Rattle.kinds.specs.Cases.{allOf, every}
-use Rattle.kinds.specs.Table.{leastOf, mostOf, sourcesWith, lastHeadOf, mostFillOf, inTable}
+use Rattle.kinds.specs.Table.{leastOf, mostOf, sourcesWith, lastHeadOf, mostFillOf, leastWidthOf, mostWidthOf, mostCoveredOf, inTable}
 
 -- ---- the words of a block
 -- word 0: the kind
@@ -35,13 +35,21 @@ headOf b = getD b 4 0
 abbrev pub fillOf : List ℕ → ℕ
 fillOf b = getD b 5 0
 
+-- word 6: the width of the module in stations, 0 in an empty station
+abbrev pub widthOf : List ℕ → ℕ
+widthOf b = getD b 6 0
+
+-- word 7: 1 where the station is covered by its left neighbour, else 0
+abbrev pub coveredOf : List ℕ → ℕ
+coveredOf b = getD b 7 0
+
 -- words 6 to 15, which no step changes
 abbrev pub fixedOf : List ℕ → ℕ → ℕ
 fixedOf b i = getD b (6 + i) 0
 
--- those of them that must be zero: all ten
+-- those of them that must be zero: words 8 to 15
 abbrev pub spareOf : List ℕ → ℕ → ℕ
-spareOf b i = getD b (6 + i) 0
+spareOf b i = getD b (8 + i) 0
 
 -- words 16 to 31: registers 0 to 15
 abbrev pub registerOf : List ℕ → ℕ → ℕ
@@ -87,7 +95,7 @@ setMaskBit b a = withMask b (setBits (maskOf b) (2 ^ a))
 abbrev pub clearMaskBit : List ℕ → ℕ → List ℕ
 clearMaskBit b a = withMask b (clearBits (maskOf b) (2 ^ a))
 
--- a block with these status and mask, and with head, fill and all sixteen registers 0
+-- a block with these status and mask, and with head, fill and all sixteen registers 0; kind, r and words 6 to 15 stay
 unfoldable pub zeroedOf : List ℕ → (status mask : ℕ) → List ℕ
 zeroedOf b status mask = kindOf b ∷ countOf b ∷ status ∷ mask ∷ 0 ∷ 0 ∷ take 10 (drop 6 b) ++ replicate 16 0
 
@@ -104,20 +112,21 @@ unfoldable pub isUsed : List ℕ → ℕ → Bool
 isUsed b i = cond (isBuffer b) (ltb ((i + 16 - headOf b) % 16) (fillOf b)) (ltb i (countOf b))
 
 -- ---- fitness of a station's block
--- kind and r are as in the table, status and mask are below 2^s, head and fill are 0 except in kind 4
+-- kind, r and width are as in the table, status and mask are below 2^s, head and fill are 0 except in kind 4, and a covered station is empty
 unfoldable pub headerTests : List ℕ → List Bool
 headerTests b =
-    inTable (kindOf b) (countOf b)
+    inTable (kindOf b) (countOf b) (widthOf b)
     ∷ ltb (statusOf b) (2 ^ sourcesOf b)
     ∷ ltb (maskOf b) (2 ^ sourcesOf b)
     ∷ leb (headOf b) (lastHeadOf (kindOf b))
     ∷ leb (fillOf b) (mostFillOf (kindOf b))
+    ∷ leb (coveredOf b) (mostCoveredOf (kindOf b))
     ∷ []
 
 unfoldable pub isFitHeader : List ℕ → Bool
 isFitHeader b = allOf (headerTests b)
 
--- words 6 to 15 are zero
+-- words 8 to 15 are zero
 unfoldable pub isFitSpare : List ℕ → ℕ → Bool
 isFitSpare b i = eqb (spareOf b i) 0
 
@@ -125,9 +134,9 @@ isFitSpare b i = eqb (spareOf b i) 0
 unfoldable pub isFitRegister : List ℕ → ℕ → Bool
 isFitRegister b i = ltb (registerOf b i) (2 ^ 24) && (isUsed b i || eqb (registerOf b i) 0)
 
--- a block is fit: 32 words, the header, words 6 to 15, the sixteen registers
+-- a block is fit: 32 words, the header, words 8 to 15, the sixteen registers
 unfoldable pub fitTests : List ℕ → List Bool
-fitTests b = eqb (length b) 32 ∷ isFitHeader b ∷ every 10 (isFitSpare b) ∷ every 16 (isFitRegister b) ∷ []
+fitTests b = eqb (length b) 32 ∷ isFitHeader b ∷ every 8 (isFitSpare b) ∷ every 16 (isFitRegister b) ∷ []
 
 unfoldable pub isFitBlock : List ℕ → Bool
 isFitBlock b = allOf (fitTests b)
@@ -142,7 +151,10 @@ pub record FitBlock (b : List ℕ) : Type 0 where
   pub mask : maskOf b < 2 ^ sourcesOf b
   pub lastHead : headOf b ≤ lastHeadOf (kindOf b)
   pub mostFill : fillOf b ≤ mostFillOf (kindOf b)
-  pub spare : (i : ℕ) → i < 10 → spareOf b i ≡ 0
+  pub leastWidth : leastWidthOf (kindOf b) ≤ widthOf b
+  pub mostWidth : widthOf b ≤ mostWidthOf (kindOf b)
+  pub mostCovered : coveredOf b ≤ mostCoveredOf (kindOf b)
+  pub spare : (i : ℕ) → i < 8 → spareOf b i ≡ 0
   pub register : (i : ℕ) → i < 16 → registerOf b i < 2 ^ 24
   pub unused : (i : ℕ) → i < 16 → isUsed b i ≡ false → registerOf b i ≡ 0
   pub sources : sourcesOf b ≤ 16

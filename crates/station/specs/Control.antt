@@ -1,4 +1,4 @@
--- The common controls at a station (RULES 3.11, 3.12), and the block of a module just put in.
+-- The common controls at a station (RULES 3.11, 3.12), the block of a module just put in, and of a station that it covers (RULES 7.11, 7.23).
 use Prim.Native.Nat.{ℕ, zero, suc}
 use mathlib.Core.List.{List, _∷_}
 use lib.ListN.{replicate}
@@ -19,6 +19,10 @@ clearedBelow (suc k) b = commandOf (clearedBelow k b) k 9 0 .block
 abbrev pub clearedOf : List ℕ → List ℕ
 clearedOf b = clearedBelow (countOf b) b
 
--- the block of a module just put in: its kind and its r, all else 0; an empty station is kind 0 with r 0
+-- the block of a module just put in: its kind, its r and its width, all else 0
 abbrev pub moduleOf : Module → List ℕ
-moduleOf p = p .kind ∷ p .r ∷ replicate 30 0
+moduleOf p = p .kind ∷ p .r ∷ 0 ∷ 0 ∷ 0 ∷ 0 ∷ p .wide ∷ replicate 25 0
+
+-- the block of an empty station that its left neighbour covers
+abbrev pub coveredBlock : List ℕ
+coveredBlock = 0 ∷ 0 ∷ 0 ∷ 0 ∷ 0 ∷ 0 ∷ 0 ∷ 1 ∷ replicate 24 0

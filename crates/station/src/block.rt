@@ -18,7 +18,11 @@ pub const HEAD: usize = 4;
 
 pub const FILL: usize = 5;
 
-pub const SPARE: usize = 6;
+pub const WIDTH: usize = 6;
+
+pub const COVERED: usize = 7;
+
+pub const SPARE: usize = 8;
 
 pub const REGISTERS: usize = 16;
 

@@ -1,8 +1,8 @@
--- What is sent back (RULES 6.1 to 6.11): the number of each row of the table of refusals.
+-- What is sent back (RULES 6.1 to 6.11, 6.23): the number of each row of the table of refusals.
 use Prim.Native.Nat.{ℕ}
 use Rattle.step.specs.declared.Refusal.{Refusal}
 use Rattle.step.specs.declared.Refusal.the-variants.{Garbled, NoSuchStation, NoSuchSubaddress, NoSuchFunction, OverwideWord, CrossedRange, BadLength}
-use Rattle.step.specs.declared.Refusal.the-variants.{ShortBuffer, UnfitCrate, BadModule, OutOfOrder}
+use Rattle.step.specs.declared.Refusal.the-variants.{ShortBuffer, UnfitCrate, BadModule, OutOfOrder, CoveredStation}
 use Rattle.step.specs.declared.Verdict.{Verdict}
 use Rattle.step.specs.declared.Verdict.the-variants.{Fine, Refuse}
 
@@ -19,10 +19,11 @@ refusalNumber ShortBuffer = 8
 refusalNumber UnfitCrate = 9
 refusalNumber BadModule = 10
 refusalNumber OutOfOrder = 11
+refusalNumber CoveredStation = 12
 
 -- how many refusals there are: their numbers are 1 to `refusals`
 abbrev pub refusals : ℕ
-refusals = 11
+refusals = 12
 
 -- the number of a verdict: 0 where nothing is sent back
 abbrev pub verdictNumber : Verdict → ℕ

@@ -5,7 +5,7 @@ use crate::Verdict;
 use kinds::Module;
 use kinds::in_table;
 ghost use mathlib.Core.Path.{_≡_};
-ghost use Rattle.step.specs.Modules.{fitsKind, orderThen, moduleThen};
+ghost use Rattle.step.specs.Modules.{fitsKind, hasRoom, fitsModule, orderThen, coveredThen, moduleThen};
 ghost use Rattle.step.specs.Verdict.{within, transfer, unless, stationThen, subaddressThen, functionThen, transferThen, wordThen, inhibitThen};
 ghost use Rattle.step.specs.Verdict.{rangeThen, limitThen, triesThen, lentThen, areNarrow, offeredThen};
 ghost use lib.ListN.{take};
@@ -43,11 +43,25 @@ fn is_transfer(f: u32) -> bool
     f == 3
 }
 
-// A kind of module (0 is an empty station), and r registers as the table of kinds says.
+// A kind of module (0 is an empty station), with r registers and a width as the table of kinds says.
 fn fits_kind(held: Module) -> bool
     ensures { λ b. ⌜ b ≡ fitsKind held ⌝ }
 {
-    1 <= held.kind && in_table(held.kind, held.r)
+    1 <= held.kind && in_table(held.kind, held.r, held.wide)
+}
+
+// One station wide, or with a station to its right. A sum of station and width could wrap: the station is judged with all else, not before it.
+fn has_room(held: Module) -> bool
+    ensures { λ b. ⌜ b ≡ hasRoom held ⌝ }
+{
+    held.wide < 2 || held.n < LAST_STATION
+}
+
+// A module that fits the table and its station.
+fn fits_module(held: Module) -> bool
+    ensures { λ b. ⌜ b ≡ fitsModule held ⌝ }
+{
+    fits_kind(held) && has_room(held)
 }
 
 // What follows, unless the test failed.
@@ -147,8 +161,14 @@ pub fn order_then(previous: u32, n: u32, rest: Verdict) -> Verdict
     unless(previous < n, Refusal::OutOfOrder, rest)
 }
 
+pub fn covered_then(covered: u32, rest: Verdict) -> Verdict
+    ensures { λ r. ⌜ r ≡ coveredThen covered rest ⌝ }
+{
+    unless(covered == 0, Refusal::CoveredStation, rest)
+}
+
 pub fn module_then(held: Module, rest: Verdict) -> Verdict
     ensures { λ v. ⌜ v ≡ moduleThen held rest ⌝ }
 {
-    unless(fits_kind(held), Refusal::BadModule, rest)
+    unless(fits_module(held), Refusal::BadModule, rest)
 }

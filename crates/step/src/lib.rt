@@ -2,6 +2,7 @@
 // The types come first, then the judging; each row of the table of refusals is a function of `fields`.
 pub mod fields;
 
+use fields::covered_then;
 use fields::function_then;
 use fields::inhibit_then;
 use fields::lent_then;
@@ -36,6 +37,7 @@ pub enum Refusal {
     UnfitCrate,
     BadModule,
     OutOfOrder,
+    CoveredStation,
 }
 
 // The kinds of step, each with the fields of its line in a run file.
@@ -113,7 +115,7 @@ pub enum Verdict {
 }
 
 // How many refusals there are. Their numbers are 1 to REFUSALS.
-pub const REFUSALS: u32 = 11;
+pub const REFUSALS: u32 = 12;
 
 // The number that stands for a refusal.
 pub fn refusal_number(q: Refusal) -> u32
@@ -131,6 +133,7 @@ pub fn refusal_number(q: Refusal) -> u32
         Refusal::UnfitCrate => 9,
         Refusal::BadModule => 10,
         Refusal::OutOfOrder => 11,
+        Refusal::CoveredStation => 12,
     }
 }
 
@@ -184,13 +187,13 @@ pub fn reaches(step: Step, k: u32) -> bool
     }
 }
 
-// The verdict on a crate line after a line for the station `previous`, which is 0 before the first.
-pub fn judge_module(previous: u32, line: Module) -> Verdict
-    ensures { λ r. ⌜ r ≡ moduleVerdict previous line ⌝ }
+// The verdict on a crate line after a line for the station `previous`, which is 0 before the first; word 7 of its own station is `covered`.
+pub fn judge_module(previous: u32, covered: u32, held: Module) -> Verdict
+    ensures { λ r. ⌜ r ≡ moduleVerdict previous covered held ⌝ }
 {
-    let n = line.n;
-    let rest = order_then(previous, n, module_then(line, Verdict::Fine));
-    station_then(n, rest)
+    let n = held.n;
+    let rest = covered_then(covered, module_then(held, Verdict::Fine));
+    station_then(n, order_then(previous, n, rest))
 }
 
 // The kinds of step, field by field. What stands to the right of a field is handed to it, so the leftmost fault counts.

@@ -1,34 +1,30 @@
--- `put_module` meets its contract: the lent block becomes the module's, whatever it was.
+-- `put_module` meets its contract: the stations that the module fills, and then the cover to their right.
+use mathlib.Core.List.{List}
+use mathlib.Core.Path.{ap, _∙_}
+use Prim.Native.Nat.{ℕ, _+_}
+use native.Mathlib.Omega.{arith}
+use Rattle.kinds.proofs.TableLaws.{module-room}
+use Rattle.dataway.specs.Stations.{uncovered, withModule}
 use borrow.Author.Needs.{needs}
-use Rattle.dataway.proofs.StationLaws.{block-lent}
-use Rattle.dataway.specs.Stations.{withModule}
-use Rattle.station.specs.Control.{moduleOf}
 use Rattle.dataway.proofs.put_module.Statement.{statement}
 use Rattle.dataway.proofs.put_module.Tie as tie
 
-cast-from : tie.Need-cast-from
-cast-from c = search needs
+occupy-requires : tie.Need-occupy-requires
+occupy-requires c κs = search needs
 
-mul-from : tie.Need-mul-from
-mul-from c = search needs
+cast-uncover-block : tie.Need-cast-uncover-block
+cast-uncover-block c = search needs
 
-add-to : tie.Need-add-to
-add-to c = search needs
+cast-uncover-block-2 : tie.Need-cast-uncover-block-2
+cast-uncover-block-2 c = search needs
 
-mul-put-module : tie.Need-mul-put-module
-mul-put-module c = search needs
+add-uncover-block : tie.Need-add-uncover-block
+add-uncover-block c = search needs
 
-sub-put-module : tie.Need-sub-put-module
-sub-put-module c = search needs
-
-part-put-module-start : tie.Need-part-put-module-start
-part-put-module-start c = search needs
-
-part-put-module-end : tie.Need-part-put-module-end
-part-put-module-end c = search needs
-
-put-module-requires : tie.Need-put-module-requires
-put-module-requires c κs = search needs
+uncover-block-requires : tie.Need-uncover-block-requires
+uncover-block-requires c κs =
+    let entry = c .before .before .before .before .before .before .before .before in
+    (search needs, omega (arith, module-room (entry .args .held) (entry .pre .1)))
 
 same-length : tie.Need-same-length
 same-length c = search needs
@@ -36,20 +32,18 @@ same-length c = search needs
 returns : tie.Need-returns
 unfolding withModule
 returns c =
-    let args = c .before .before .before .before .before .before .args in
-    block-lent (args .memory .now) (args .held .n) (λ b. moduleOf (args .held)) (c .before .before .put-module .last .0) (c .before .before .put-module .ensures)
+    let entry = c .before .before .before .before .before .before .before .before .before .before .before in
+    c .before .before .uncover-block .ensures
+    ∙ ap (λ (x : List ℕ). uncovered x (entry .args .held .n + entry .args .held .wide)) (c .before .before .before .before .before .before .before .before .occupy .ensures)
 
 pub put-module-spec : {M : Type 1} → statement M
 put-module-spec =
     tie.close
     (tie.spec
-    cast-from
-    mul-from
-    add-to
-    mul-put-module
-    sub-put-module
-    part-put-module-start
-    part-put-module-end
-    put-module-requires
+    occupy-requires
+    cast-uncover-block
+    cast-uncover-block-2
+    add-uncover-block
+    uncover-block-requires
     same-length
     returns)

@@ -2,6 +2,7 @@
 use borrow.Author.Tests.{lt-ltb, le-ltb, le-leb, lt-leb}
 use borrow.Author.Needs.{needs}
 use Rattle.kinds.specs.Table.{inTable}
+use Rattle.kinds.proofs.TableLaws.{table-last}
 use Rattle.kinds.proofs.in_table.Statement.{statement}
 use Rattle.kinds.proofs.in_table.Tie as tie
 
@@ -19,17 +20,49 @@ returns-2 : tie.Need-returns-2
 unfolding inTable
 returns-2 c = simp (lt-ltb _ _ (c .before .if1 .left), lt-leb _ _ (c .if2 .taken))
 
+mul-if3 : tie.Need-mul-if3
+mul-if3 c = search needs
+
+array-read-if3 : tie.Need-array-read-if3
+array-read-if3 c = search needs
+
+returns-3 : tie.Need-returns-3
+unfolding inTable
+returns-3 c = simp (lt-ltb _ _ (c .before .before .if1 .left), le-leb _ _ (c .before .if2 .left), lt-leb _ _ (c .if3 .taken))
+
+mul-if4 : tie.Need-mul-if4
+mul-if4 c = search needs
+
+array-read-if4 : tie.Need-array-read-if4
+array-read-if4 c = search needs
+
+returns-4 : tie.Need-returns-4
+unfolding inTable
+returns-4 c = simp (lt-ltb _ _ (c .before .before .before .if1 .left), le-leb _ _ (c .before .before .if2 .left), le-leb _ _ (c .before .if3 .left), lt-leb _ _ (c .if4 .taken))
+
 mul-result : tie.Need-mul-result
 mul-result c = search needs
 
 array-read-result : tie.Need-array-read-result
 array-read-result c = search needs
 
-returns-3 : tie.Need-returns-3
-unfolding inTable
-returns-3 c = simp (lt-ltb _ _ (c .before .if1 .left), le-leb _ _ (c .if2 .left))
+returns-5 : tie.Need-returns-5
+returns-5 c = table-last _ _ _ (c .before .before .before .if1 .left) (c .before .before .if2 .left) (c .before .if3 .left) (c .if4 .left)
 
 pub in-table-spec : {M : Type 1} → statement M
 in-table-spec =
     tie.close
-    (tie.spec returns mul-if2 array-read-if2 returns-2 mul-result array-read-result returns-3)
+    (tie.spec
+    returns
+    mul-if2
+    array-read-if2
+    returns-2
+    mul-if3
+    array-read-if3
+    returns-3
+    mul-if4
+    array-read-if4
+    returns-4
+    mul-result
+    array-read-result
+    returns-5)

@@ -11,4 +11,4 @@ unfolding moduleVerdict
 returns c = search row-then
 
 pub judge-module-spec : {M : Type 1} → statement M
-judge-module-spec = tie.close (tie.spec (λ c κs. search needs) (λ c κs. search needs) (λ c κs. search needs) returns)
+judge-module-spec = tie.close (tie.spec (λ c κs. search needs) (λ c κs. search needs) (λ c κs. search needs) (λ c κs. search needs) returns)

@@ -1,9 +1,10 @@
--- `is_fit_crate` meets its contract: its tests are those of the definition, in their order.
+-- `is_fit_crate` meets its contract: its tests are those of the definition, in their order. `at-rest`, `at-stations` and `at-covers` are the places in the code
+-- where these tests have been passed.
 use mathlib.Core.Path.{sym, _∙_}
 use borrow.Author.Tests.{ne-eqb, lt-ltb, le-ltb, not-true, not-false}
 use borrow.Author.Needs.{needs}
 use Rattle.dataway.specs.Crate.{isFitCrate, crateTests}
-use Rattle.kinds.proofs.TestLaws.{both-true}
+use Rattle.dataway.proofs.CrateLaws.{crate-last}
 use Rattle.dataway.proofs.fitness.is_fit_crate.Statement.{statement}
 use Rattle.dataway.proofs.fitness.is_fit_crate.Tie as tie
 
@@ -35,12 +36,51 @@ are-stations-fit-requires c κs = search needs
 returns-4 : tie.Need-returns-4
 unfolding isFitCrate crateTests
 returns-4 c = simp (
-  (c .before .before .before .before .before .if1 .left),
-  lt-ltb _ _ (c .before .before .before .if2 .left),
-  sym (c .before .before .is-rest-zero .ensures) ∙ not-false _ (c .before .if3 .left),
-  both-true,
-  (c .are-stations-fit .ensures),
+  (c .before .before .before .before .before .before .if1 .left),
+  lt-ltb _ _ (c .before .before .before .before .if2 .left),
+  sym (c .before .before .before .is-rest-zero .ensures) ∙ not-false _ (c .before .before .if3 .left),
+  sym (c .before .are-stations-fit .ensures) ∙ not-true _ (c .if4 .taken),
 )
+
+are-covers-fit-requires : tie.Need-are-covers-fit-requires
+are-covers-fit-requires c κs = search needs
+
+returns-5 : tie.Need-returns-5
+unfolding isFitCrate crateTests
+returns-5 c =
+    let at-stations = c .before .before in
+    let at-rest = at-stations .before .before in
+    simp (
+      (at-rest .before .before .before .before .if1 .left),
+      lt-ltb _ _ (at-rest .before .before .if2 .left),
+      sym (at-rest .before .is-rest-zero .ensures) ∙ not-false _ (at-rest .if3 .left),
+      sym (at-stations .before .are-stations-fit .ensures) ∙ not-false _ (at-stations .if4 .left),
+      sym (c .before .are-covers-fit .ensures) ∙ not-true _ (c .if5 .taken),
+    )
+
+mul-result : tie.Need-mul-result
+mul-result c = search needs
+
+add-result : tie.Need-add-result
+add-result c = search needs
+
+mul-result-2 : tie.Need-mul-result-2
+mul-result-2 c = search needs
+
+shared-slice-read-result : tie.Need-shared-slice-read-result
+shared-slice-read-result c = search needs
+
+returns-6 : tie.Need-returns-6
+returns-6 c =
+    let at-covers = c .before in
+    let at-stations = at-covers .before .before in
+    let at-rest = at-stations .before .before in
+    crate-last (at-rest .before .before .before .before .before .before .args .memory .now)
+    (at-rest .before .before .before .before .if1 .left)
+    (at-rest .before .before .if2 .left)
+    (sym (at-rest .before .is-rest-zero .ensures) ∙ not-false _ (at-rest .if3 .left))
+    (sym (at-stations .before .are-stations-fit .ensures) ∙ not-false _ (at-stations .if4 .left))
+    (sym (at-covers .before .are-covers-fit .ensures) ∙ not-false _ (at-covers .if5 .left))
 
 pub is-fit-crate-spec : {M : Type 1} → statement M
 is-fit-crate-spec =
@@ -52,4 +92,11 @@ is-fit-crate-spec =
     is-rest-zero-requires
     returns-3
     are-stations-fit-requires
-    returns-4)
+    returns-4
+    are-covers-fit-requires
+    returns-5
+    mul-result
+    add-result
+    mul-result-2
+    shared-slice-read-result
+    returns-6)

@@ -1,4 +1,4 @@
--- `put_module` meets its contract: all words become 0, then kind and register count are stored.
+-- `put_module` meets its contract: all words become 0, then kind, register count and width are stored.
 use borrow.Author.Needs.{needs}
 use Rattle.panel.proofs.control.put_module.Statement.{statement}
 use Rattle.panel.proofs.control.put_module.Tie as tie
@@ -12,6 +12,9 @@ slice-write-b c = search needs
 slice-write-b-2 : tie.Need-slice-write-b-2
 slice-write-b-2 c = search needs
 
+slice-write-b-3 : tie.Need-slice-write-b-3
+slice-write-b-3 c = search needs
+
 same-length : tie.Need-same-length
 same-length c = search needs
 
@@ -20,4 +23,4 @@ returns c = rw ((c .before .before .zero .ensures), (c .before .before .before .
 
 pub put-module-spec : {M : Type 1} → statement M
 put-module-spec =
-    tie.close (tie.spec zero-requires slice-write-b slice-write-b-2 same-length returns)
+    tie.close (tie.spec zero-requires slice-write-b slice-write-b-2 slice-write-b-3 same-length returns)

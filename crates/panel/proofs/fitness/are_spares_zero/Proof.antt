@@ -12,10 +12,10 @@ use Rattle.panel.proofs.fitness.are_spares_zero.Statement.{statement}
 use Rattle.panel.proofs.fitness.are_spares_zero.Tie as tie
 
 abbrev Inv-loop : tie.InvT-loop
-Inv-loop b i₀ i = (i ≤ 10) × (every i (isFitSpare b) ≡ true)
+Inv-loop b i₀ i = (i ≤ 8) × (every i (isFitSpare b) ≡ true)
 
 abbrev μ-loop : tie.MeasureT-loop
-μ-loop b i₀ i = 10 - i
+μ-loop b i₀ i = 8 - i
 
 loop-holds : tie.Need-loop-holds Inv-loop μ-loop
 loop-holds c = (omega arith, refl)
@@ -31,7 +31,7 @@ shared-slice-read-if1 c = omega arith
 
 returns : tie.Need-returns Inv-loop μ-loop
 unfolding isFitSpare
-returns c = sym (every-false 10 (isFitSpare (c .before .before .before .before .args .b .now)) (c .before .before .before .loop .i)
+returns c = sym (every-false 8 (isFitSpare (c .before .before .before .before .args .b .now)) (c .before .before .before .loop .i)
     (omega arith) (ne-eqb _ _ (c .if1 .taken)))
 
 add-i : tie.Need-add-i Inv-loop μ-loop
@@ -49,7 +49,7 @@ loop-again c = (
 )
 
 returns-2 : tie.Need-returns-2 Inv-loop μ-loop
-returns-2 c = let e : (c .before .loop .i) ≡ 10 = omega arith in sym (rw e at (c .before .loop .inv .1))
+returns-2 c = let e : (c .before .loop .i) ≡ 8 = omega arith in sym (rw e at (c .before .loop .inv .1))
 
 pub are-spares-zero-spec : {M : Type 1} → statement M
 are-spares-zero-spec =

@@ -1,11 +1,11 @@
--- `is_fit_header` meets its contract: its tests are those of the definition, in their order. `at-table`, `at-status` and `at-mask` are the places in the
--- code where these tests have been passed.
+-- `is_fit_header` meets its contract: its tests are those of the definition, in their order. `at-table`, `at-status`, `at-mask`, `at-head` and `at-fill` are
+-- the places in the code where these tests have been passed.
 use mathlib.Core.Path.{sym, _∙_}
 use native.Mathlib.Omega.{arith}
 use borrow.Author.Tests.{not-true, not-false}
 use borrow.Author.Needs.{needs}
 use Rattle.kinds.proofs.TableLaws.{table-facts}
-use Rattle.station.proofs.Fitness.{header-no-status, header-no-mask, header-no-head, header-last}
+use Rattle.station.proofs.Fitness.{header-no-status, header-no-mask, header-no-head, header-no-fill, header-last}
 use Rattle.station.proofs.KindTable.{block-sources-few}
 use Rattle.station.specs.Block.{isFitHeader, headerTests}
 use Rattle.panel.proofs.fitness.is_fit_header.Statement.{statement}
@@ -16,6 +16,9 @@ shared-slice-read-kind c = search needs
 
 shared-slice-read-in-table : tie.Need-shared-slice-read-in-table
 shared-slice-read-in-table c = search needs
+
+shared-slice-read-in-table-2 : tie.Need-shared-slice-read-in-table-2
+shared-slice-read-in-table-2 c = search needs
 
 in-table-requires : tie.Need-in-table-requires
 in-table-requires c κs = search needs
@@ -34,7 +37,7 @@ fits-bits-requires : tie.Need-fits-bits-requires
 fits-bits-requires c κs =
     let at-table = c .before in
     let table = sym (at-table .before .before .in-table .ensures) ∙ not-false _ (at-table .before .if1 .left) in
-    omega (arith, block-sources-few (at-table .before .before .before .before .before .before .args .b .now) (table-facts _ _ table .2), (at-table .sources .ensures))
+    omega (arith, block-sources-few (at-table .before .before .before .before .before .before .before .args .b .now) (table-facts _ _ _ table .2), (at-table .sources .ensures))
 
 returns-2 : tie.Need-returns-2
 returns-2 c =
@@ -50,7 +53,7 @@ fits-bits-requires-2 : tie.Need-fits-bits-requires-2
 fits-bits-requires-2 c κs =
     let at-table = c .before .before .before .before in
     let table = sym (at-table .before .before .in-table .ensures) ∙ not-false _ (at-table .before .if1 .left) in
-    omega (arith, block-sources-few (at-table .before .before .before .before .before .before .args .b .now) (table-facts _ _ table .2), (at-table .sources .ensures))
+    omega (arith, block-sources-few (at-table .before .before .before .before .before .before .before .args .b .now) (table-facts _ _ _ table .2), (at-table .sources .ensures))
 
 returns-3 : tie.Need-returns-3
 returns-3 c =
@@ -65,7 +68,7 @@ last-head-requires : tie.Need-last-head-requires
 last-head-requires c κs =
     let at-table = c .before .before .before .before .before .before in
     let table = sym (at-table .before .before .in-table .ensures) ∙ not-false _ (at-table .before .if1 .left) in
-    table-facts _ _ table .0
+    table-facts _ _ _ table .0
 
 shared-slice-read-if4 : tie.Need-shared-slice-read-if4
 shared-slice-read-if4 c = search needs
@@ -80,24 +83,49 @@ returns-4 c =
     let mask = rw (at-table .sources .ensures) at (sym (at-mask .before .fits-bits2 .ensures) ∙ not-false _ (at-mask .if3 .left)) in
     sym (header-no-head _ table status mask (rw (c .before .before .last-head .ensures) at (c .if4 .taken)))
 
-shared-slice-read-result : tie.Need-shared-slice-read-result
-shared-slice-read-result c = search needs
-
 most-fill-requires : tie.Need-most-fill-requires
 most-fill-requires c κs =
-    let at-table = c .before .before .before .before .before .before .before .before .before .before in
+    let at-table = c .before .before .before .before .before .before .before .before .before in
     let table = sym (at-table .before .before .in-table .ensures) ∙ not-false _ (at-table .before .if1 .left) in
-    table-facts _ _ table .0
+    table-facts _ _ _ table .0
+
+shared-slice-read-if5 : tie.Need-shared-slice-read-if5
+shared-slice-read-if5 c = search needs
 
 returns-5 : tie.Need-returns-5
 returns-5 c =
-    let at-mask = c .before .before .before .before .before in
+    let at-head = c .before .before .before in
+    let at-mask = at-head .before .before .before in
     let at-status = at-mask .before .before .before in
     let at-table = at-status .before .before .before in
     let table = sym (at-table .before .before .in-table .ensures) ∙ not-false _ (at-table .before .if1 .left) in
     let status = rw (at-table .sources .ensures) at (sym (at-status .before .fits-bits .ensures) ∙ not-false _ (at-status .if2 .left)) in
     let mask = rw (at-table .sources .ensures) at (sym (at-mask .before .fits-bits2 .ensures) ∙ not-false _ (at-mask .if3 .left)) in
-    rw (c .most-fill .ensures) (sym (header-last _ table status mask (rw (c .before .before .before .before .last-head .ensures) at (c .before .before .if4 .left))))
+    let head = rw (at-head .before .before .last-head .ensures) at (at-head .if4 .left) in
+    sym (header-no-fill _ table status mask head (rw (c .before .before .most-fill .ensures) at (c .if5 .taken)))
+
+shared-slice-read-result : tie.Need-shared-slice-read-result
+shared-slice-read-result c = search needs
+
+most-covered-requires : tie.Need-most-covered-requires
+most-covered-requires c κs =
+    let at-head = c .before .before .before .before in
+    let at-table = at-head .before .before .before .before .before .before .before .before .before in
+    let table = sym (at-table .before .before .in-table .ensures) ∙ not-false _ (at-table .before .if1 .left) in
+    table-facts _ _ _ table .0
+
+returns-6 : tie.Need-returns-6
+returns-6 c =
+    let at-fill = c .before .before in
+    let at-head = at-fill .before .before .before in
+    let at-mask = at-head .before .before .before in
+    let at-status = at-mask .before .before .before in
+    let at-table = at-status .before .before .before in
+    let table = sym (at-table .before .before .in-table .ensures) ∙ not-false _ (at-table .before .if1 .left) in
+    let status = rw (at-table .sources .ensures) at (sym (at-status .before .fits-bits .ensures) ∙ not-false _ (at-status .if2 .left)) in
+    let mask = rw (at-table .sources .ensures) at (sym (at-mask .before .fits-bits2 .ensures) ∙ not-false _ (at-mask .if3 .left)) in
+    let head = rw (at-head .before .before .last-head .ensures) at (at-head .if4 .left) in
+    rw (c .most-covered .ensures) (sym (header-last _ table status mask head (rw (at-fill .before .before .most-fill .ensures) at (at-fill .if5 .left))))
 
 pub is-fit-header-spec : {M : Type 1} → statement M
 is-fit-header-spec =
@@ -105,6 +133,7 @@ is-fit-header-spec =
     (tie.spec
     shared-slice-read-kind
     shared-slice-read-in-table
+    shared-slice-read-in-table-2
     in-table-requires
     returns
     sources-requires
@@ -117,6 +146,9 @@ is-fit-header-spec =
     last-head-requires
     shared-slice-read-if4
     returns-4
-    shared-slice-read-result
     most-fill-requires
-    returns-5)
+    shared-slice-read-if5
+    returns-5
+    shared-slice-read-result
+    most-covered-requires
+    returns-6)

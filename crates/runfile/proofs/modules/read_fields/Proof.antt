@@ -70,13 +70,40 @@ returns-3 c =
       was-absent line _ (c .before .before .field-at3 .ensures) (c .enum-told3 .given .1),
     )
 
-end-module-at-requires : tie.Need-end-module-at-requires
-end-module-at-requires c κs = search needs
+slice-aggregate-field-at-4 : tie.Need-slice-aggregate-field-at-4
+slice-aggregate-field-at-4 c = search needs
+
+field-at-requires-4 : tie.Need-field-at-requires-4
+field-at-requires-4 c κs = search needs
+
+enum-known-wide : tie.Need-enum-known-wide
+enum-known-wide c = search needs
+
+enum-told-4 : tie.Need-enum-told-4
+enum-told-4 c = search needs
 
 returns-4 : tie.Need-returns-4
 unfolding readModule
 returns-4 c =
-    let r = c .before .before in
+    let r = c .before .before .before .before .before in
+    let kind = r .before .before .before .before .before in
+    let n = kind .before .before .before .before .before in
+    let line = n .before .before .before .before .before .args .line .now in
+    rw (
+      was-taken line _ (n .before .before .field-at .ensures) (n .n .given .1),
+      was-taken line _ (kind .before .before .field-at2 .ensures) (kind .kind .given .1),
+      was-taken line _ (r .before .before .field-at3 .ensures) (r .r .given .1),
+      was-absent line _ (c .before .before .field-at4 .ensures) (c .enum-told4 .given .1),
+    )
+
+end-module-at-requires : tie.Need-end-module-at-requires
+end-module-at-requires c κs = search needs
+
+returns-5 : tie.Need-returns-5
+unfolding readModule
+returns-5 c =
+    let wide = c .before .before in
+    let r = wide .before .before .before .before .before in
     let kind = r .before .before .before .before .before in
     let n = kind .before .before .before .before .before in
     let line = n .before .before .before .before .before .args .line .now in
@@ -84,6 +111,7 @@ returns-4 c =
       was-taken line _ (n .before .before .field-at .ensures) (n .n .given .1),
       was-taken line _ (kind .before .before .field-at2 .ensures) (kind .kind .given .1),
       was-taken line _ (r .before .before .field-at3 .ensures) (r .r .given .1),
+      was-taken line _ (wide .before .before .field-at4 .ensures) (wide .wide .given .1),
     )
 
 pub read-fields-spec : {M : Type 1} → statement M
@@ -105,5 +133,10 @@ read-fields-spec =
     enum-known-r
     enum-told-3
     returns-3
+    slice-aggregate-field-at-4
+    field-at-requires-4
+    enum-known-wide
+    enum-told-4
+    returns-4
     end-module-at-requires
-    returns-4)
+    returns-5)
