@@ -14,7 +14,7 @@ use Rattle.blocks.specs.Blocks.{word, blockOf, withBlock}
 use Rattle.blocks.proofs.Blocks.{put-in, put-other, block-same, block-of-agree, set-is-put}
 use Rattle.kinds.specs.Table.{FitModule}
 use Rattle.kinds.specs.declared.Module.{Module}
-use Rattle.kinds.proofs.TableLaws.{module-width}
+use Rattle.kinds.proofs.TableLaws.{module-width, module-room}
 use Rattle.kinds.proofs.TestLaws.{alike, by-cases}
 use Rattle.station.specs.Block.{widthOf, coveredOf, FitBlock}
 use Rattle.station.specs.Control.{moduleOf, coveredBlock}
@@ -107,11 +107,7 @@ module _ (m : List ℕ) (p : Module) (f : FitCrate m) (g : FitModule p) (free : 
       let bare : word m (1 + k) 7 ≡ 0 = ap (λ (x : ℕ). word m x 7) (sym at) ∙ free in
       but-with m k (p .n) (moduleOf p) (record { blocks = blocks-of m f; cover = λ i h d. f .cover i h; last = f .last }) at (g .last) (control.module-fit p g)
       (sym bare ∙ f .cover k (omega (arith, g .first, g .last)))
-      (λ e.
-      ⊎-elim
-      (λ (two : p .wide ≡ 2). absurd (omega (arith, g .room two)))
-      (λ (d : p .wide ≡ 2 → ⊥). omega (arith, width .1))
-      (alike (p .wide) 2))
+      (λ e. omega (arith, module-room p g))
 
   one-width : word one (p .n) 6 ≡ p .wide
   one-width = put-in m (p .n) (moduleOf p) (f .size) (omega (arith, g .last)) refl 6 (omega arith)
