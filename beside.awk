@@ -13,6 +13,14 @@ BEGIN {
     said["taken=2"] = "taken, and a status bit was raised"
     said["taken=3"] = "lost: the buffer memory is full"
 
+    # what the controller itself does, by N, A and F; Q and W of the last two come behind the words
+    does["28 8 26"] = "Z is done"
+    does["28 9 26"] = "C is done"
+    does["30 9 24"] = "Inhibit taken off"
+    does["30 9 26"] = "Inhibit set"
+    does["30 9 27"] = "Inhibit is "
+    does["30 8 16"] = "Station Number Register: "
+
     end2["op=scan"] = end2["op=put"] = "past `to`"
     end2["op=repeat"] = "tries used up"
     end2["op=stop"] = "Q = 0"
@@ -58,24 +66,55 @@ function row(file, misfit,    number, line, words) {
 
 # An answer that has no words here is shown as the sheet has it.
 function answer(line, misfit,    words) {
+    if (line == "op=z") register = 0
     if (($3 "=" $4) in said) return said[$3 "=" $4]
-    if ($3 == "x") return "X=" $4 " Q=" $6 " R=" $8 ($4 == 1 ? "" : ", not accepted")
+    if ($3 == "x") return "X=" $4 " Q=" $6 " R=" $8 sent(line, $4, $6)
     if ($3 == "l") return "L=" $4 ", " requests($4, $6)
     if ($3 == "end") {
         words = ended($4, line) ": " counted($6, "word") " in " counted($8, "cycle")
         return words (line ~ /^op=put / ? "" : stored($6))
     }
-    if ($3 == "refused" && $4 in meaning) return "refused (" $4 "): " meaning[$4] ($4 == 1 ? ": " fault(line, misfit) : "")
+    if ($3 == "refused" && $4 in meaning) return "refused (" $4 "): " refusal($4, line) ($4 == 1 ? ": " fault(line, misfit) : "")
     return substr($0, index($0, " ") + 1)
 }
 
-function requests(l, count,    n, stations) {
-    if (count == 0) return "no station requests"
-    for (n = 1; l > 0; n++) {
-        if (l % 2 == 1) stations = stations " " n
-        l = int(l / 2)
+# A command has numbers of its own for N, and one a narrower W.
+function refusal(number, line) {
+    if (number == 2 && line ~ /^op=naf /) return meaning[2] ", and not 24, 26, 28 or 30"
+    if (number == 5 && line ~ /^op=naf n=30 a=8 f=16 /) return "overwide word: the Station Number Register has 23 bits, and w is above 8388607"
+    return meaning[number]
+}
+
+# Where a command went, if not to one station, and whether it was accepted. The Station Number Register is followed from line to line, for N24.
+function sent(line, x, q,    field, naf) {
+    split(line, field)
+    naf = field[4] " " field[6] " " field[8]
+    if (naf == "28 8 26") register = 0
+    if (naf == "30 8 16") register = field[10]
+    if (naf in does) return ", " does[naf] (naf == "30 9 27" ? q : naf == "30 8 16" ? stations(register) : "")
+    if (field[4] == 24 && register == 0) return ", no station is addressed"
+    return (field[4] == 24 ? ", sent to " stations(register) : field[4] == 26 ? ", sent to all stations" : "") (x == 1 ? "" : ", not accepted")
+}
+
+# The stations of a pattern, in words.
+function stations(pattern,    each) {
+    if (pattern == 8388607) return "all stations"
+    each = numbers(pattern)
+    return each == "" ? "no station" : (each ~ / / ? "stations " : "station ") each
+}
+
+# Their numbers: bit N - 1 belongs to station N.
+function numbers(pattern,    n, each) {
+    for (n = 1; pattern > 0; n++) {
+        if (pattern % 2 == 1) each = each (each == "" ? "" : " ") n
+        pattern = int(pattern / 2)
     }
-    return count (count == 1 ? " station requests:" : " stations request:") stations
+    return each
+}
+
+function requests(l, count) {
+    if (count == 0) return "no station requests"
+    return count (count == 1 ? " station requests: " : " stations request: ") numbers(l)
 }
 
 function ended(end, line) {

@@ -2,10 +2,10 @@
 // crate of reference.rs: the number returned, and every word of the memory, answers and buffers.
 //   library SEED COUNT
 // makes COUNT calls, the same ones for the same seed, after some that were worked out by hand: puts of lent words, Repeats and Stops, front events, crate
-// lines and steps in crates with modules two stations wide, and memories that are not fit.
+// lines and steps in crates with modules two stations wide, commands to N24, 26, 28 and 30, and memories that are not fit.
 // Ends with 0 when none differs, with 1 at the first that does, after printing it; a call by hand that differs is a
 // panic; 2 means that the two numbers were not given.
-// What the calls have to do is written from document 01, requests L1, L3, L4 and L6 of document 02, include/pagontxu.h and docs/DECISIONS.md.
+// What the calls have to do is written from document 01, requests L1, L3, L4, L6 and L7 of document 02, include/pagontxu.h and docs/DECISIONS.md.
 
 #[allow(dead_code)]
 #[path = "reference.rs"]
@@ -22,6 +22,7 @@ const STEP: usize = 6;
 const ANSWER: usize = 4;
 const BUFFER: usize = 512; // of each step of a list
 const WORD_MAX: u32 = 0xff_ffff;
+const ALL_STATIONS: u32 = 0x7f_ffff;
 
 extern "C" {
     fn pagontxu_crate_line(memory: *mut u32, memory_len: usize, previous: u32, line: *const u8, line_len: usize) -> u32;
@@ -166,11 +167,12 @@ fn call_library(call: &mut Call, arrays: &mut Arrays) -> u32 {
 
 // ---- the same by the reference ----
 
-// Whether a memory is fit, from 01's 'Crate memory' and L6.
+// Whether a memory is fit, from 01's 'Crate memory', L6 and L7.
 fn fit(memory: &[u32]) -> bool {
     memory.len() == MEMORY
         && memory[0] <= 1
-        && memory[1..BLOCK].iter().all(|word| *word == 0)
+        && memory[1] <= ALL_STATIONS
+        && memory[2..BLOCK].iter().all(|word| *word == 0)
         && memory[BLOCK..].chunks(BLOCK).all(fit_station)
         && (1..=23).all(|n| memory[n * BLOCK + 7] == covers(&memory[(n - 1) * BLOCK..]) as u32)
         && !covers(&memory[23 * BLOCK..])
@@ -217,6 +219,7 @@ fn fit_station(block: &[u32]) -> bool {
 fn load(memory: &[u32]) -> Crate {
     let mut model = Crate::new();
     model.inhibit = memory[0] == 1;
+    model.addressed = memory[1];
     for (n, block) in memory.chunks(BLOCK).enumerate().skip(1) {
         let kind = [Kind::Empty, Kind::Scaler, Kind::Output, Kind::Input, Kind::Buffer, Kind::Counter][block[0] as usize];
         let module = &mut model.stations[n];
@@ -237,6 +240,7 @@ fn load(memory: &[u32]) -> Crate {
 fn save(model: &Crate, memory: &mut [u32]) {
     memory.fill(0);
     memory[0] = model.inhibit as u32;
+    memory[1] = model.addressed;
     for (n, block) in memory.chunks_mut(BLOCK).enumerate().skip(1) {
         let module = &model.stations[n];
         block[0] = match module.kind {
@@ -424,6 +428,13 @@ fn fill_station(chance: &mut Chance, block: &mut [u32], long: bool) {
     }
 }
 
+// A pattern of stations: none, one, all, those with a module, those without one, or any.
+fn pattern(chance: &mut Chance, memory: &[u32]) -> u32 {
+    let filled = (1..=23).filter(|n| memory[n * BLOCK] != 0).fold(0, |bits, n| bits | 1 << (n - 1));
+    let (one, any) = (1 << chance.below(23), chance.word() & ALL_STATIONS);
+    chance.pick(&[0, 0, one, one, any, any, any, filled, filled & any, ALL_STATIONS ^ filled, ALL_STATIONS])
+}
+
 fn fit_memory(chance: &mut Chance) -> Vec<u32> {
     let mut memory = vec![0; MEMORY];
     let density = chance.pick(&[0, 20, 60, 90, 90, 100]);
@@ -442,6 +453,7 @@ fn fit_memory(chance: &mut Chance) -> Vec<u32> {
             }
         }
     }
+    memory[1] = pattern(chance, &memory);
     memory
 }
 
@@ -449,7 +461,7 @@ fn fit_memory(chance: &mut Chance) -> Vec<u32> {
 fn spoil(chance: &mut Chance, memory: &mut [u32]) {
     let place = match chance.below(6) {
         0 => chance.below(MEMORY),
-        1 => chance.pick(&[0, 1, 31]),
+        1 => chance.pick(&[0, 1, 2, 31]),
         2 => chance.below(BLOCK),
         3 => BLOCK * (1 + chance.below(23)) + chance.below(6),
         4 => BLOCK * (1 + chance.below(23)) + chance.below(16),
@@ -465,6 +477,17 @@ fn spoil(chance: &mut Chance, memory: &mut [u32]) {
         5 => chance.pick(&[1, 2, 4, 6, 15, 16, 17]),
         _ => 0,
     };
+}
+
+// Changes the Station Number Register, or a word behind it in block 0; once in a while the memory stays fit.
+fn spoil_register(chance: &mut Chance, memory: &mut [u32]) {
+    if chance.percent(70) {
+        let old = memory[1];
+        memory[1] = chance.pick(&[1 << 23, 1 << 23 | old, 1 << 31 | old, WORD_MAX, WORD_MAX + 1, u32::MAX, ALL_STATIONS]);
+    } else {
+        let any = 2 + chance.below(30);
+        memory[chance.pick(&[2, 2, any, 31])] = chance.pick(&[1, 2, 1 << 22, 1 << 31]);
+    }
 }
 
 // Changes the width or the cover of a station, or both of two neighbours; once in a while the memory stays fit.
@@ -502,13 +525,14 @@ fn spoil_widths(chance: &mut Chance, memory: &mut [u32]) {
     }
 }
 
-// The memory with one word spoilt, with widths and covers spoilt, with another length, or wholly random.
+// The memory with one word spoilt, the Station Number Register or widths and covers spoilt, with another length, or wholly random.
 fn spoilt(chance: &mut Chance, memory: &[u32]) -> Vec<u32> {
     let mut memory = memory.to_vec();
-    match chance.below(14) {
+    match chance.below(16) {
         0..=5 => spoil(chance, &mut memory),
-        6..=9 => spoil_widths(chance, &mut memory),
-        10..=11 => {
+        6..=7 => spoil_register(chance, &mut memory),
+        8..=11 => spoil_widths(chance, &mut memory),
+        12..=13 => {
             let any = chance.below(1600);
             let length = chance.pick(&[0, 1, 31, 32, 736, 767, 769, 800, 1536, any, any]);
             let random = chance.percent(30);
@@ -563,6 +587,34 @@ fn subaddress(chance: &mut Chance, r: u32, f: u32) -> u32 {
     }
 }
 
+// The functions that a command names often.
+fn function(chance: &mut Chance) -> u32 {
+    if chance.percent(90) { chance.pick(&FUNCTIONS) } else { chance.from(0, 31) }
+}
+
+// The commands that the controller takes: N, A and F.
+const NAMED: [[u32; 3]; 13] = [
+    [28, 8, 26], [28, 9, 26], [30, 9, 24], [30, 9, 24], [30, 9, 24], [30, 9, 26], [30, 9, 27], [30, 9, 27], [30, 8, 16], [30, 8, 16], [30, 8, 16],
+    [30, 8, 16], [30, 8, 16],
+];
+
+// N, A, F and W of a command to many stations, to the controller as it takes it or nearly so, or to any N of 24 to 32; r is a register count.
+fn controller_command(chance: &mut Chance, memory: &[u32], r: u32) -> [u32; 4] {
+    let (f, word, stations) = (function(chance), word24(chance), pattern(chance, memory));
+    let load = chance.pick(&[stations, stations, stations, ALL_STATIONS, ALL_STATIONS + 1, stations | 1 << 23, word, WORD_MAX]);
+    match chance.below(20) {
+        0..=9 => [chance.pick(&[24, 24, 26]), subaddress(chance, r, f), f, word],
+        10..=15 => {
+            let [n, a, f] = chance.pick(&NAMED);
+            [n, a, f, load]
+        }
+        _ => {
+            let (any_n, any_a) = (chance.from(24, 32), chance.from(0, 15));
+            [chance.pick(&[28, 28, 30, 30, any_n]), chance.pick(&[8, 8, 9, 9, any_a]), chance.pick(&[16, 16, 17, 24, 26, 27, f]), load]
+        }
+    }
+}
+
 // The six words of a step; those past its fields are any.
 fn any_step(chance: &mut Chance, memory: &[u32]) -> [u32; STEP] {
     let mut step = [0; STEP];
@@ -583,14 +635,14 @@ fn any_step(chance: &mut Chance, memory: &[u32]) -> [u32; STEP] {
     };
     let writes = (kind == 10 || kind == 11) && chance.percent(60);
     let (n, r) = station(chance, memory, if writes { &[2, 5] } else { &[1, 2, 3, 4, 5] });
-    let n_word = perhaps_past(chance, n, &[0, 24, 25, 26, 28, 30, 31, 32]);
+    let n_word = perhaps_past(chance, n, &[0, 24, 25, 26, 27, 28, 29, 30, 31, 32]);
     step[0] = kind;
     match kind {
         1 => {
-            let f = if chance.percent(90) { chance.pick(&FUNCTIONS) } else { chance.from(0, 31) };
-            let a = subaddress(chance, r, f);
-            let w = word24(chance);
-            step[1] = n_word;
+            let f = function(chance);
+            let command = [n_word, subaddress(chance, r, f), f, word24(chance)];
+            let [n, a, f, w] = if chance.percent(30) { controller_command(chance, memory, r) } else { command };
+            step[1] = n;
             step[2] = perhaps_past(chance, a, &[16, 17, 31, 255]);
             step[3] = perhaps_past(chance, f, &[32, 33, 63, 255]);
             step[4] = perhaps_past(chance, w, &[1 << 24, (1 << 24) + 1, 1 << 31, u32::MAX]);
@@ -942,7 +994,7 @@ const FRONTS_BY_HAND: [HandFront; 19] = [
     (0, [0, 0, 0, 0, 0], [0, 9], 0, [0, 0, 0, 0]),
 ];
 
-// A station of a crate: N, words 0 to 7 of its block, register 0. In station 0 the first word is I. All other words are 0.
+// A station of a crate: N, words 0 to 7 of its block, register 0. In station 0 the first two words are I and the Station Number Register. All other words are 0.
 type Stood = (usize, [u32; 8], u32);
 
 const COVERED: [u32; 8] = [0, 0, 0, 0, 0, 0, 0, 1];
@@ -1062,6 +1114,91 @@ const WIDE_STEPS_BY_HAND: &[([u32; STEP], [u32; ANSWER], &[u32], &[Stood])] = &[
     ),
 ];
 
+// What C and Z make of WIDE_IN_5, but for block 0.
+const WIDE_IN_5_CLEARED: &[Stood] =
+    &[(5, [1, 2, 1, 3, 0, 0, 2, 0], 0), (6, COVERED, 0), (8, [3, 1, 1, 1, 0, 0, 1, 0], 0), (23, [2, 1, 0, 0, 0, 0, 1, 0], 0)];
+const WIDE_IN_5_INITIALIZED: &[Stood] =
+    &[(5, [1, 2, 0, 0, 0, 0, 2, 0], 0), (6, COVERED, 0), (8, [3, 1, 0, 0, 0, 0, 1, 0], 0), (23, [2, 1, 0, 0, 0, 0, 1, 0], 0)];
+
+// Steps with the controller's N on WIDE_IN_5: I and the Station Number Register before, the step, the answer, I and the register after, the stations after.
+type HandSent = ([u32; 2], [u32; STEP], [u32; ANSWER], [u32; 2], &'static [Stood]);
+
+const SENT_BY_HAND: &[HandSent] = &[
+    // N24 F0: no station; 5; the covered 6; 23; 5 and 23, 9 OR 4; all, 9 OR 7 OR 4
+    ([0, 0], [1, 24, 0, 0, 0, 0], [1, 0, 0, 0], [0, 0], WIDE_IN_5),
+    ([0, 16], [1, 24, 0, 0, 0, 0], [1, 1, 1, 9], [0, 16], WIDE_IN_5),
+    ([1, 32], [1, 24, 0, 0, 0, 0], [1, 0, 0, 0], [1, 32], WIDE_IN_5),
+    ([1, 4194304], [1, 24, 0, 0, 0, 0], [1, 1, 1, 4], [1, 4194304], WIDE_IN_5),
+    ([0, 4194320], [1, 24, 0, 0, 0, 0], [1, 1, 1, 13], [0, 4194320], WIDE_IN_5),
+    ([0, 8388607], [1, 24, 0, 0, 0, 0], [1, 1, 1, 15], [0, 8388607], WIDE_IN_5),
+    // N24 F9 at 8 and 23 leaves 5
+    (
+        [1, 4194432],
+        [1, 24, 0, 9, 0, 0],
+        [1, 1, 1, 0],
+        [1, 4194432],
+        &[WIDE_IN_5[0], WIDE_IN_5[1], WIDE_IN_5_CLEARED[2], WIDE_IN_5_CLEARED[3]],
+    ),
+    // N26 whatever the register holds: F25 at the scaler alone, F16 at the output register alone; F17 cuts W to the sources of each
+    ([1, 0], [1, 26, 0, 25, 0, 0], [1, 1, 1, 0], [1, 0], &[(5, [1, 2, 1, 3, 0, 0, 2, 0], 10), WIDE_IN_5[1], WIDE_IN_5[2], WIDE_IN_5[3]]),
+    (
+        [0, 1],
+        [1, 26, 0, 16, 16777215, 0],
+        [1, 1, 1, 0],
+        [0, 1],
+        &[WIDE_IN_5[0], WIDE_IN_5[1], WIDE_IN_5[2], (23, [2, 1, 0, 0, 0, 0, 1, 0], 16777215)],
+    ),
+    (
+        [0, 0],
+        [1, 26, 13, 17, 2, 0],
+        [1, 1, 1, 0],
+        [0, 0],
+        &[(5, [1, 2, 1, 2, 0, 0, 2, 0], 9), WIDE_IN_5[1], (8, [3, 1, 1, 0, 0, 0, 1, 0], 7), WIDE_IN_5[3]],
+    ),
+    // F8: the one source at A1 does not request; at A0 two do. F12 and A15 are accepted nowhere
+    ([0, 0], [1, 26, 1, 8, 0, 0], [1, 1, 0, 0], [0, 0], WIDE_IN_5),
+    ([0, 0], [1, 26, 0, 8, 0, 0], [1, 1, 1, 0], [0, 0], WIDE_IN_5),
+    ([0, 8388607], [1, 26, 0, 12, 0, 0], [1, 0, 0, 0], [0, 8388607], WIDE_IN_5),
+    ([0, 8388607], [1, 24, 15, 0, 0, 0], [1, 0, 0, 0], [0, 8388607], WIDE_IN_5),
+    // N28: Z and C; other A and F
+    ([0, 8388607], [1, 28, 8, 26, 16777215, 0], [1, 1, 0, 0], [1, 0], WIDE_IN_5_INITIALIZED),
+    ([1, 5], [1, 28, 9, 26, 0, 0], [1, 1, 0, 0], [1, 5], WIDE_IN_5_CLEARED),
+    ([0, 5], [1, 28, 8, 24, 0, 0], [1, 0, 0, 0], [0, 5], WIDE_IN_5),
+    ([0, 5], [1, 28, 10, 26, 0, 0], [1, 0, 0, 0], [0, 5], WIDE_IN_5),
+    ([0, 5], [1, 28, 8, 16, 16777215, 0], [1, 0, 0, 0], [0, 5], WIDE_IN_5),
+    // N30: I; the register; other A and F
+    ([1, 5], [1, 30, 9, 24, 0, 0], [1, 1, 0, 0], [0, 5], WIDE_IN_5),
+    ([0, 5], [1, 30, 9, 26, 0, 0], [1, 1, 0, 0], [1, 5], WIDE_IN_5),
+    ([0, 5], [1, 30, 9, 27, 0, 0], [1, 1, 0, 0], [0, 5], WIDE_IN_5),
+    ([1, 5], [1, 30, 9, 27, 0, 0], [1, 1, 1, 0], [1, 5], WIDE_IN_5),
+    ([1, 5], [1, 30, 8, 16, 8388607, 0], [1, 1, 0, 0], [1, 8388607], WIDE_IN_5),
+    ([0, 5], [1, 30, 8, 16, 0, 0], [1, 1, 0, 0], [0, 0], WIDE_IN_5),
+    ([0, 5], [1, 30, 8, 17, 8388608, 0], [1, 0, 0, 0], [0, 5], WIDE_IN_5),
+    ([0, 5], [1, 30, 9, 16, 16777215, 0], [1, 0, 0, 0], [0, 5], WIDE_IN_5),
+    // Z itself
+    ([0, 5], [3, 0, 0, 0, 0, 0], [3, 1, 0, 0], [1, 0], WIDE_IN_5_INITIALIZED),
+    // refused: 2; 2 before 3; 3 before 5; 4 before 5; 5 at 23 bits and at 24
+    ([0, 5], [1, 25, 0, 0, 0, 0], [0, 2, 0, 0], [0, 5], WIDE_IN_5),
+    ([0, 5], [1, 27, 9, 26, 0, 0], [0, 2, 0, 0], [0, 5], WIDE_IN_5),
+    ([0, 5], [1, 29, 8, 26, 0, 0], [0, 2, 0, 0], [0, 5], WIDE_IN_5),
+    ([0, 5], [1, 31, 8, 16, 0, 0], [0, 2, 0, 0], [0, 5], WIDE_IN_5),
+    ([0, 5], [1, 32, 0, 0, 0, 0], [0, 2, 0, 0], [0, 5], WIDE_IN_5),
+    ([0, 5], [1, 286, 8, 16, 0, 0], [0, 2, 0, 0], [0, 5], WIDE_IN_5),
+    ([0, 5], [1, 25, 16, 32, u32::MAX, 0], [0, 2, 0, 0], [0, 5], WIDE_IN_5),
+    ([0, 5], [1, 30, 16, 16, u32::MAX, 0], [0, 3, 0, 0], [0, 5], WIDE_IN_5),
+    ([0, 5], [1, 30, 8, 32, u32::MAX, 0], [0, 4, 0, 0], [0, 5], WIDE_IN_5),
+    ([0, 5], [1, 30, 8, 16, 8388608, 0], [0, 5, 0, 0], [0, 5], WIDE_IN_5),
+    ([0, 5], [1, 30, 8, 17, 16777216, 0], [0, 5, 0, 0], [0, 5], WIDE_IN_5),
+    ([0, 5], [1, 24, 0, 0, 16777216, 0], [0, 5, 0, 0], [0, 5], WIDE_IN_5),
+    // front events, transfers and puts have stations only
+    ([0, 5], [2, 24, 0, 1, 0, 0], [0, 2, 0, 0], [0, 5], WIDE_IN_5),
+    ([0, 5], [7, 26, 0, 0, 26, 1], [0, 2, 0, 0], [0, 5], WIDE_IN_5),
+    ([0, 5], [8, 28, 0, 0, 1, 1], [0, 2, 0, 0], [0, 5], WIDE_IN_5),
+    ([0, 5], [9, 30, 0, 0, 1, 0], [0, 2, 0, 0], [0, 5], WIDE_IN_5),
+    ([0, 5], [10, 24, 0, 24, 1, 0], [0, 2, 0, 0], [0, 5], WIDE_IN_5),
+    ([0, 5], [11, 26, 0, 26, 1, 0], [0, 2, 0, 0], [0, 5], WIDE_IN_5),
+];
+
 // Words of WIDE_IN_5 set so that it stays fit, each by station, place in its block, and value.
 const FIT_BY_HAND: &[&[(usize, usize, u32)]] = &[
     &[],
@@ -1069,6 +1206,10 @@ const FIT_BY_HAND: &[&[(usize, usize, u32)]] = &[
     &[(8, 6, 2), (9, 7, 1)],
     // the scaler one wide, without
     &[(5, 6, 1), (6, 7, 0)],
+    // a Station Number Register of 23 bits
+    &[(0, 1, 1)],
+    &[(0, 1, 8388607)],
+    &[(0, 0, 1), (0, 1, 4194304)],
 ];
 
 // The same, so that it is not fit.
@@ -1113,6 +1254,12 @@ const UNFIT_BY_HAND: &[&[(usize, usize, u32)]] = &[
     &[(0, 6, 2)],
     &[(0, 6, 2), (1, 7, 1)],
     &[(0, 7, 1)],
+    // a Station Number Register of more than 23 bits, and words of block 0 behind it
+    &[(0, 1, 8388608)],
+    &[(0, 1, 16777215)],
+    &[(0, 1, u32::MAX)],
+    &[(0, 1, 1), (0, 2, 1)],
+    &[(0, 31, 1)],
 ];
 
 fn memory_of(stations: &[Stood]) -> Vec<u32> {
@@ -1205,6 +1352,15 @@ fn try_all_by_hand() {
         let buffer_after = [stored, &buffer[stored.len()..]].concat();
         try_step(*step, *answer, [&memory_of(WIDE_IN_5), &memory_of(after)], [&buffer, &buffer_after]);
     }
+    for ([inhibit, register], step, answer, [inhibit_after, register_after], after) in SENT_BY_HAND {
+        let with_block_0 = |i, register, stations| {
+            let mut memory = memory_of(stations);
+            memory[..2].copy_from_slice(&[i, register]);
+            memory
+        };
+        let (before, after) = (with_block_0(*inhibit, *register, WIDE_IN_5), with_block_0(*inhibit_after, *register_after, *after));
+        try_step(*step, *answer, [&before, &after], [&[77], &[77]]);
+    }
     // F0 at the empty station 20, a crate line for 20, a run line and a list of no steps
     for (sets, fit) in FIT_BY_HAND.iter().map(|sets| (sets, true)).chain(UNFIT_BY_HAND.iter().map(|sets| (sets, false))) {
         let mut memory = memory_of(WIDE_IN_5);
@@ -1227,6 +1383,7 @@ fn try_all_by_hand() {
         "  {} crate lines and {} refused, {} steps beside a covered station, {} memories fit and {} unfit",
         LINES_BY_HAND.len(), REFUSED_BY_HAND.len(), WIDE_STEPS_BY_HAND.len(), FIT_BY_HAND.len(), UNFIT_BY_HAND.len()
     );
+    println!("  {} steps with the controller's N", SENT_BY_HAND.len());
 }
 
 // ---- what is printed of a difference ----

@@ -6,6 +6,7 @@ make_files.py random DIR FIRST COUNT  COUNT small folders DIR/SEED, of the seeds
 """
 import os
 import random
+import re
 import sys
 
 LAST_LINE = 99999
@@ -59,12 +60,44 @@ def put(rng, modules, limit):
     return "op=put n=%d a=%d to=%d limit=%d w=%d" % (n, a, rng.choice([n, rng.randint(n, 23)]), limit, word(rng))
 
 
-def step(rng, modules, longest):
-    """A run line in form; a transfer asks for at most `longest` words or cycles."""
+def function(rng):
+    return rng.choice(FUNCTIONS) if rng.random() < 0.9 else rng.randint(0, 31)
+
+
+# N, A and F of the commands that the controller takes; Z and C less often, since they clear what others show
+NAMED = [(28, 8, 26), (28, 9, 26)] + [(30, 9, 24)] * 4 + [(30, 9, 26)] * 2 + [(30, 9, 27)] * 4 + [(30, 8, 16)] * 6
+LOADS = [0, 1, 4194304, 8388607, 8388607, 8388608, 16777215, 16777216]
+
+
+def load(rng, modules):
+    """A word for the Station Number Register: one station or two, those with modules, any, or about 2^23."""
+    bits = [1 << (n - 1) for n, _, _, _ in modules] or [1]
+    return rng.choice([rng.choice(bits), rng.choice(bits) | rng.choice(bits), sum(bits), sum(bits), rng.randrange(1 << 23), rng.choice(LOADS)])
+
+
+def controller_command(rng, modules):
+    """A command to many stations, to the controller as it takes it or nearly so, or to any N of 24 to 32 and 0."""
+    pick = rng.random()
+    f = function(rng)
+    if pick < 0.45:
+        n, a = rng.choice([24, 24, 26]), subaddress(rng, station(rng, modules)[1], f)
+    elif pick < 0.75:
+        n, a, f = rng.choice(NAMED)
+    else:
+        n = rng.choice([28, 30]) if pick < 0.9 else rng.choice([0, 32] + list(range(24, 32)) * 3)
+        a, f = rng.choice([8, 8, 9, 9, rng.randint(0, 15)]), rng.choice([16, 16, 17, 24, 26, 27, f])
+    w = load(rng, modules) if n > 26 and rng.random() < 0.7 else word(rng)
+    return "op=naf n=%d a=%d f=%d w=%d" % (n, a, f, w)
+
+
+def step(rng, modules, longest, controller):
+    """A run line in form; a transfer asks for at most `longest` words or cycles; `controller` of the commands, 0 to 1, have the controller's N."""
     n, r = station(rng, modules)
     pick = rng.random()
     if pick < 0.44:
-        f = rng.choice(FUNCTIONS) if rng.random() < 0.9 else rng.randint(0, 31)
+        if rng.random() < controller:
+            return controller_command(rng, modules)
+        f = function(rng)
         return "op=naf n=%d a=%d f=%d w=%d" % (n, subaddress(rng, r, f), f, word(rng))
     if pick < 0.73:
         return "op=front n=%d a=%d v=%d" % (n, subaddress(rng, r), word(rng))
@@ -88,8 +121,8 @@ def step(rng, modules, longest):
     return "op=stop n=%d a=%d f=%d limit=%d" % (n, a, f, limit)
 
 
-EDGES = [0, 1, 2, 3, 4, 8, 15, 16, 17, 22, 23, 24, 25, 31, 32, 512, 513, 4096, 4097, 16777215, 16777216, 99999999]
-WORD_EDGES = EDGES[-3:]
+EDGES = [0, 1, 2, 3, 4, 8, 15, 16, 17, 22, 23, 24, 25, 26, 28, 30, 31, 32, 512, 513, 4096, 4097, 8388608, 16777215, 16777216, 99999999]
+WORD_EDGES = EDGES[-4:]
 
 
 def edge_fields(rng, line):
@@ -158,12 +191,12 @@ def write_folder(path, crate, run):
 
 
 def mixed(path):
-    """99,999 lines of all ten forms, one in twenty with a field past its bound, one in fifty garbled."""
+    """99,999 lines of all ten forms, one command in fifty with the controller's N, one line in twenty with a field past its bound, one in fifty garbled."""
     rng = random.Random("mixed")
     modules = modules_in(rng, [n for n in range(1, 24) if n not in (6, 13)], 0.1)
     lines = []
     for _ in range(LAST_LINE):
-        line = step(rng, modules, 64)
+        line = step(rng, modules, 64, 0.02)
         pick = rng.random()
         if pick < 0.05:
             line = edge_fields(rng, line)
@@ -194,7 +227,7 @@ def garbled(path):
     rng = random.Random("garbled")
     modules = [module(rng, n) for n in range(1, 24)]
     ends = [b" ", b"\r", b"\0", b"\xff", b"x", b"=", b"\t"]
-    lines = [spoiled(rng, step(rng, modules, 512))[:300] + rng.choice(ends) for _ in range(LAST_LINE)]
+    lines = [spoiled(rng, step(rng, modules, 512, 0.1))[:300] + rng.choice(ends) for _ in range(LAST_LINE)]
     write_folder(path, crate_text(modules), b"\n".join(lines) + b"\n")
 
 
@@ -260,13 +293,36 @@ def burst(rng, modules):
     return [b"op=i v=%d" % rng.choice([0, 0, 0, 1])] + [b"op=front n=%d a=0 v=%d" % (n, word(rng)) for _ in range(rng.randint(16, 19))]
 
 
+def controls(rng, modules):
+    """Lines that set Inhibit or the Station Number Register, and after each some that show it."""
+    lines = []
+    for _ in range(rng.randint(1, 4)):
+        loads = "op=naf n=30 a=8 f=16 w=%d" % load(rng, modules)
+        sets = ["op=z", "op=c", "op=i v=0", "op=i v=1", loads, loads, loads]
+        sets += ["op=naf n=%d a=%d f=%d w=%d" % (each + (word(rng),)) for each in [(28, 8, 26), (28, 9, 26), (30, 9, 24), (30, 9, 26)]]
+        (n, r), (other, _) = station(rng, modules), station(rng, modules)
+        a = subaddress(rng, r)
+        fronts = ["op=front n=%d a=%d v=%d" % (each, a, word(rng)) for each in (n, other)]
+        shows = ["op=naf n=30 a=9 f=27 w=0", "op=lam"] + ["op=naf n=%d a=%d f=%d w=0" % (rng.choice([n, 24, 24, 26]), a, f) for f in (0, 0, 2, 8, 26, 27)]
+        lines += [rng.choice(sets)] + fronts[: rng.randint(0, 2)] + rng.sample(shows, rng.randint(1, 3))
+    return [line.encode() for line in lines]
+
+
+def elsewhere(rng, line):
+    """The line with the N of no station."""
+    return re.sub(" n=[0-9]+", lambda _: " n=%d" % rng.choice([0, 32] + list(range(24, 32)) * 2), line)
+
+
 def random_folder(path, seed):
     rng = random.Random("folder %d" % seed)
     modules, crate = random_crate(rng)
     bad = rng.choice([0.0, 0.05, 0.3])
-    lines = []
+    controller = rng.choice([0.0, 0.1, 0.4, 0.8])
+    lines = controls(rng, modules) if rng.random() < controller else []
     for _ in range(rng.choice([0, 1, 5, 40, 200])):
-        line = step(rng, modules, 512)
+        line = step(rng, modules, 512, controller)
+        if rng.random() < 0.02:
+            line = elsewhere(rng, line)
         pick = rng.random()
         if pick < bad:
             lines.append(spoiled(rng, line))
@@ -274,6 +330,8 @@ def random_folder(path, seed):
             lines.append((edge_fields(rng, line) if pick < 2 * bad else line).encode())
         if rng.random() < 0.02:
             lines += burst(rng, modules)
+        if rng.random() < controller / 5:
+            lines += controls(rng, modules)
     run = b"\n".join(lines) + (b"\n" if lines and rng.random() < 0.9 else b"")
     write_folder(path, crate, None if not lines and rng.random() < 0.5 else run)
 

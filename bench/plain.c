@@ -1,4 +1,4 @@
-// The CAMAC rehearsal in plain C, written from document 01 and requests L1, L3, L4 and L6 of document 02, read as docs/RULES.md has them.
+// The CAMAC rehearsal in plain C, written from document 01 and requests L1, L3, L4, L6 and L7 of document 02, read as docs/RULES.md has them.
 // It shares no code with the proved program, so that the two can be compared, in what they print and in how fast they are.
 // Build: gcc -O3 -DSTDIO plain.c has the C library read lines and print numbers, as a C program mostly does; gcc -O3 plain.c does both by hand, to be quick.
 // It reads crate.txt and run.txt in the current folder, or the two files named, and prints the sheet.
@@ -13,6 +13,8 @@
 #include <unistd.h>
 
 enum { STATIONS = 23, LAST_LINE = 99999, LONGEST_LINE = 80, MODULUS = 1 << 24, WORD_MAX = MODULUS - 1, MOST_WORDS = 512 };
+enum { ADDRESSED = 24, EVERY = 26, COMMON = 28, INTERNAL = 30 }; // the N of a command that is no station's
+enum { ALL_STATIONS = (1 << STATIONS) - 1 };
 enum { EMPTY, SCALER, OUTPUT, INPUT, BUFFER, COUNTER };
 enum {
     GARBLED = 1,
@@ -37,6 +39,7 @@ struct reply {
 
 static struct station crate[STATIONS + 1]; // crate[0], left of station 1, stays empty
 static uint32_t inhibit;
+static uint32_t station_numbers; // the Station Number Register: bit N-1 for station N
 
 // ---- the sheet ----
 
@@ -261,6 +264,67 @@ static uint32_t front(struct station *m, uint32_t a, uint32_t v)
     return (m->status & ~before) != 0 ? 2 : 1;
 }
 
+// ---- the whole crate ----
+
+static void initialize(void)
+{
+    for (struct station *m = crate + 1; m <= crate + STATIONS; m++) {
+        m->status = m->mask = m->head = m->fill = 0;
+        memset(m->word, 0, sizeof m->word);
+    }
+    inhibit = 1;
+    station_numbers = 0;
+}
+
+static void clear_all(void)
+{
+    for (struct station *m = crate + 1; m <= crate + STATIONS; m++)
+        for (uint32_t a = 0; a < m->r; a++)
+            clear(m, a);
+}
+
+// A command to each station whose bit is 1; X, Q and R are each the OR of theirs.
+static struct reply command_many(uint32_t stations, uint32_t a, uint32_t f, uint32_t w)
+{
+    struct reply all = {0, 0, 0};
+    for (int n = 1; n <= STATIONS; n++)
+        if (stations >> (n - 1) & 1) {
+            struct reply one = command(&crate[n], a, f, w);
+            all.x |= one.x;
+            all.q |= one.q;
+            all.r |= one.r;
+        }
+    return all;
+}
+
+// A command to the controller itself, N28 or N30.
+static struct reply control(uint32_t n, uint32_t a, uint32_t f, uint32_t w)
+{
+    struct reply reply = {1, 0, 0};
+    if (n == COMMON && a == 8 && f == 26)
+        initialize();
+    else if (n == COMMON && a == 9 && f == 26)
+        clear_all();
+    else if (n == INTERNAL && a == 9 && (f == 24 || f == 26))
+        inhibit = f == 26;
+    else if (n == INTERNAL && a == 9 && f == 27)
+        reply.q = inhibit;
+    else if (n == INTERNAL && a == 8 && f == 16)
+        station_numbers = w;
+    else
+        reply.x = 0;
+    return reply;
+}
+
+static struct reply send(uint32_t n, uint32_t a, uint32_t f, uint32_t w)
+{
+    if (n <= STATIONS)
+        return command(&crate[n], a, f, w);
+    if (n == ADDRESSED || n == EVERY)
+        return command_many(n == EVERY ? ALL_STATIONS : station_numbers, a, f, w);
+    return control(n, a, f, w);
+}
+
 // ---- the steps: each puts what it prints after `step=K`, or answers a refusal number ----
 
 static uint32_t bad_address(uint32_t n, uint32_t a)
@@ -281,14 +345,16 @@ static bool bad_length(uint32_t n, uint32_t most)
 
 static uint32_t do_naf(uint32_t n, uint32_t a, uint32_t f, uint32_t w)
 {
-    uint32_t bad = bad_address(n, a);
-    if (bad)
-        return bad;
+    bool loads = n == INTERNAL && a == 8 && f == 16; // the Station Number Register, which has 23 bits
+    if ((n < 1 || n > STATIONS) && n != ADDRESSED && n != EVERY && n != COMMON && n != INTERNAL)
+        return NO_SUCH_STATION;
+    if (a > 15)
+        return NO_SUCH_SUBADDRESS;
     if (f > 31)
         return NO_SUCH_FUNCTION;
-    if (w > WORD_MAX)
+    if (w > (loads ? ALL_STATIONS : WORD_MAX))
         return OVERWIDE_WORD;
-    struct reply reply = command(&crate[n], a, f, w);
+    struct reply reply = send(n, a, f, w);
     PUT_FIELD(" x=", reply.x);
     PUT_FIELD(" q=", reply.q);
     PUT_FIELD(" r=", reply.r);
@@ -308,20 +374,14 @@ static uint32_t do_front(uint32_t n, uint32_t a, uint32_t v)
 
 static uint32_t do_z(void)
 {
-    for (struct station *m = crate + 1; m <= crate + STATIONS; m++) {
-        m->status = m->mask = m->head = m->fill = 0;
-        memset(m->word, 0, sizeof m->word);
-    }
-    inhibit = 1;
+    initialize();
     PUT(" done=1");
     return 0;
 }
 
 static uint32_t do_c(void)
 {
-    for (struct station *m = crate + 1; m <= crate + STATIONS; m++)
-        for (uint32_t a = 0; a < m->r; a++)
-            clear(m, a);
+    clear_all();
     PUT(" done=1");
     return 0;
 }

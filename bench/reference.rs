@@ -1,4 +1,4 @@
-// The crate, its steps and its lines in plain Rust, written from document 01 and requests L1, L3, L4 and L6 of document 02, read as docs/RULES.md has them.
+// The crate, its steps and its lines in plain Rust, written from document 01 and requests L1, L3, L4, L6 and L7 of document 02, read as docs/RULES.md has them.
 // It shares no code with the proved library, so that library.rs can compare the two call by call.
 
 use std::collections::VecDeque;
@@ -48,6 +48,7 @@ pub struct Module {
 
 pub struct Crate {
     pub inhibit: bool,
+    pub addressed: u32, // the Station Number Register: bit n - 1 for station n
     pub stations: Vec<Module>, // place n is station n; place 0, left of station 1, stays empty
 }
 
@@ -60,6 +61,7 @@ pub struct Reply {
 
 const NOT_ACCEPTED: Reply = Reply { x: 0, q: 0, r: 0 };
 const DONE: Reply = Reply { x: 1, q: 1, r: 0 };
+const OBEYED: Reply = Reply { x: 1, q: 0, r: 0 }; // by the controller
 
 fn read_word(word: u32) -> Reply {
     Reply { x: 1, q: 1, r: word }
@@ -283,7 +285,7 @@ pub struct Transfer {
 
 impl Crate {
     pub fn new() -> Crate {
-        Crate { inhibit: false, stations: vec![Module::empty(); STATIONS as usize + 1] }
+        Crate { inhibit: false, addressed: 0, stations: vec![Module::empty(); STATIONS as usize + 1] }
     }
 
     // Whether the module to its left fills station n too.
@@ -303,6 +305,43 @@ impl Crate {
         self.stations[n as usize].command(a, f, w)
     }
 
+    // The command to every station that is addressed: each of X, Q and R has the bits that one of their answers has.
+    fn command_each(&mut self, addressed: impl Fn(u32) -> bool, a: u32, f: u32, w: u32) -> Reply {
+        let replies: Vec<Reply> = (1..=STATIONS).filter(|n| addressed(*n)).map(|n| self.command(n, a, f, w)).collect();
+        let any = |part: fn(&Reply) -> u32| replies.iter().map(part).fold(0, |bits, more| bits | more);
+        Reply { x: any(|reply| reply.x), q: any(|reply| reply.q), r: any(|reply| reply.r) }
+    }
+
+    // A command to any N that is good: a station, those of the Station Number Register (24), all of them (26), or the controller itself.
+    fn send(&mut self, n: u32, a: u32, f: u32, w: u32) -> Reply {
+        match (n, a, f) {
+            (1..=STATIONS, _, _) => self.command(n, a, f, w),
+            (24, _, _) => {
+                let register = self.addressed;
+                self.command_each(|n| register & 1 << (n - 1) != 0, a, f, w)
+            }
+            (26, _, _) => self.command_each(|_| true, a, f, w),
+            (28, 8, 26) => {
+                self.initialize();
+                OBEYED
+            }
+            (28, 9, 26) => {
+                self.clear();
+                OBEYED
+            }
+            (30, 9, 24 | 26) => {
+                self.inhibit = f == 26;
+                OBEYED
+            }
+            (30, 9, 27) => test(self.inhibit),
+            (30, 8, 16) => {
+                self.addressed = w;
+                OBEYED
+            }
+            _ => NOT_ACCEPTED,
+        }
+    }
+
     fn front(&mut self, n: u32, a: u32, v: u32) -> u32 {
         if self.inhibit { 0 } else { self.stations[n as usize].front(a, v) }
     }
@@ -312,6 +351,7 @@ impl Crate {
             *module = Module::new(module.kind, module.r, module.wide);
         }
         self.inhibit = true;
+        self.addressed = 0;
     }
 
     fn clear(&mut self) {
@@ -435,6 +475,11 @@ fn judge_station(n: u32) -> Result<(), u32> {
     judge(n < 1 || n > STATIONS, NO_SUCH_STATION)
 }
 
+// Of a command, whose N may be the controller's.
+fn judge_command_station(n: u32) -> Result<(), u32> {
+    if [24, 26, 28, 30].contains(&n) { Ok(()) } else { judge_station(n) }
+}
+
 fn judge_subaddress(a: u32) -> Result<(), u32> {
     judge(a > 15, NO_SUCH_SUBADDRESS)
 }
@@ -502,11 +547,13 @@ pub fn run_step(memory: &mut Crate, step: Step, buffer: &[u32], words: &mut Vec<
     let lent = buffer.len();
     match step {
         Step::Naf([n, a, f, w]) => {
-            judge_station(n)?;
+            judge_command_station(n)?;
             judge_subaddress(a)?;
             judge(f > 31, NO_SUCH_FUNCTION)?;
             judge_word(w)?;
-            Ok(Answer::Replied(memory.command(n, a, f, w)))
+            // the Station Number Register has 23 bits
+            judge([n, a, f] == [30, 8, 16] && w >> STATIONS != 0, OVERWIDE_WORD)?;
+            Ok(Answer::Replied(memory.send(n, a, f, w)))
         }
         Step::Front([n, a, v]) => {
             judge_station(n)?;

@@ -7,7 +7,7 @@ COUNT    random pairs (2000)
 SEED     of the first of them (1)
 Ends with 0 when every output is the same, 1 when one differs, 2 when it cannot start.
 
-Written from document 01 and request L1 of document 02 alone. A line of a file is a step. The verdict comes from trying the rearrangements one by one; the lines before it from
+Written from document 01 and requests L1 and L7 of document 02 alone. A line of a file is a step. The verdict comes from trying the rearrangements one by one; the lines before it from
 the steps that touch each station, in order, and from how often each refusal number comes. Neighbouring stations that part alike are one line.
 What is said on standard error is compared too.
 """
@@ -23,6 +23,7 @@ LAST_LINE = 99999
 NAMES = ("run.txt", "regrouped.txt")
 LAST_STATION = 23
 ALL_STATIONS = frozenset(range(1, LAST_STATION + 1))
+CONTROLLER = (24, 26, 28, 30)
 NO_STATION = frozenset()
 FORMS = {
     "naf": ["n", "a", "f", "w"],
@@ -63,13 +64,14 @@ def field_refusal(op, values, name):
     value = values[name]
     transfer = op in ("scan", "repeat", "stop")
     if name == "n":
-        return 0 if 1 <= value <= LAST_STATION else 2
+        return 0 if 1 <= value <= LAST_STATION or (op == "naf" and value in CONTROLLER) else 2
     if name == "a":
         return 0 if value <= 15 else 3
     if name == "f":
         return 0 if (value in (0, 2, 3) if transfer else value <= 31) else 4
     if name in ("w", "v"):
-        return 0 if value <= (1 if op == "i" else 16777215) else 5
+        loads = op == "naf" and (values["n"], values["a"], values["f"]) == (30, 8, 16)
+        return 0 if value <= (1 if op == "i" else 8388607 if loads else 16777215) else 5
     if name == "to":
         return 0 if values["n"] <= value <= LAST_STATION else 6
     return 0 if 1 <= value <= (512 if name == "limit" else 4096) else 7
@@ -89,7 +91,7 @@ def step_of(line):
                 return refused_with(number)
         if op in ("scan", "put"):
             touches = frozenset(range(values["n"], values["to"] + 1))
-        elif "n" in values:
+        elif values.get("n", LAST_STATION + 1) <= LAST_STATION:
             touches = frozenset([values["n"]])
         else:
             touches = ALL_STATIONS
@@ -206,11 +208,19 @@ def outcome(pair):
 # ---- random pairs
 
 
-WORDS = [0, 1, 16777215]
+WORDS = [0, 1, 8388607, 8388608, 16777215]
 WIDE_WORDS = [16777216, 99999999]
 
 
+def controller_line(rng):
+    """A command with the controller's N, taken or not; at times refused for a w of more than 23 bits."""
+    a, f = rng.choice([(8, 26), (9, 26), (9, 24), (9, 27), (8, 16), (8, 16), (0, 0), (15, 31)])
+    return "op=naf n=%d a=%d f=%d w=%d" % (rng.choice(CONTROLLER), a, f, rng.choice(WORDS))
+
+
 def good_line(rng, stations):
+    if rng.random() < 0.12:
+        return controller_line(rng)
     op = rng.choice(["naf"] * 5 + ["front"] * 5 + ["scan"] * 4 + ["put"] * 3 + ["repeat", "stop"] * 2 + ["z", "c", "i", "lam"])
     n = rng.choice(stations)
     values = {
@@ -226,7 +236,7 @@ def good_line(rng, stations):
     return " ".join(["op=" + op] + ["%s=%d" % (name, values[name]) for name in FORMS[op]])
 
 
-EDGES = [0, 2, 4, 16, 24, 32, 513, 4097, 16777216, 99999999]
+EDGES = [0, 2, 4, 8, 16, 24, 25, 26, 28, 30, 31, 32, 513, 4097, 16777216, 99999999]
 
 
 def edged(rng, line):

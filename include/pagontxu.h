@@ -1,6 +1,6 @@
 /* pagontxu.h: a rehearsal of a CAMAC crate, for programs in C, Fortran or Python.
  *
- * The rules are those of document 01, "The CAMAC rehearsal crate", and of document 02, requests L1 to L6; docs/RULES.md has them, numbered. Each function is
+ * The rules are those of document 01, "The CAMAC rehearsal crate", and of document 02, requests L1 to L7; docs/RULES.md has them, numbered. Each function is
  * proved to return and to leave what its definition in crates/capi/specs/Calls.antt says, for any contents and any lengths of the arrays that it is lent.
  *
  * Build the archive with `rt staticlib capi` and link target/staticlib/libcapi.a (x86-64 Linux). The library keeps no state, allocates nothing
@@ -14,7 +14,7 @@
  * Lengths of memory, steps, answers and buffers are in words of 32 bits, those of lines in bytes.
  *
  * THE CRATE MEMORY: 768 words, 24 blocks of 32. All 0 is a fit, empty crate with Inhibit off: start from that.
- *   block 0: word 0 is Inhibit I (0 or 1), the rest 0
+ *   block 0: word 0 is Inhibit I (0 or 1), word 1 the Station Number Register, any number of 23 bits (0 to 8388607), the rest 0
  *   block N, words 32 N to 32 N + 31, is station N, 1 to 23:
  *     word 0        kind: 0 empty, 1 scaler, 2 output register, 3 input register, 4 buffer memory, 5 up-down counter
  *     word 1        r, the register count: 1 to 16; of a buffer memory 1; of an empty station 0
@@ -33,7 +33,7 @@
  * to a front event, no bit of L, and nothing changes. A scan or a put crosses it with one cycle, a Repeat or a Stop ends 3 there.
  *
  * A STEP: six words. Word 0 says which step it is; its fields follow in the order of the run file's line; the words after them are not looked at.
- *   1 naf     n a f w             a command: station, subaddress, function, write word
+ *   1 naf     n a f w             a command: station (or 24, 26, 28, 30: below), subaddress, function, write word
  *   2 front   n a v               a front event
  *   3 z                           Initialize
  *   4 c                           Clear
@@ -45,6 +45,20 @@
  *  10 put     n a to limit w      a put of one word: w, `limit` times; it needs no buffer
  *  11         n a to limit        a put of lent words: the first `limit` words of the buffer; a run file has no line for it
  *   any other word 0 is garbled: refusal 1.
+ *
+ * A COMMAND goes by its n:
+ *   1 to 23              to that station
+ *   24                   to each station whose bit is set in the Station Number Register: bit N - 1 belongs to station N
+ *   26                   to all 23 stations
+ *   28, a = 8, f = 26    is Z: what step 3 does. I becomes 1, the Station Number Register 0
+ *   28, a = 9, f = 26    is C: what step 4 does. The Station Number Register stays as it is
+ *   30, a = 9, f = 24    I becomes 0
+ *   30, a = 9, f = 26    I becomes 1
+ *   30, a = 9, f = 27    changes nothing, and tells I
+ *   30, a = 8, f = 16    the Station Number Register becomes w, 23 bits
+ *   28 and 30, all else  is not accepted, and changes nothing
+ * With 24 and 26 each station does the command as if it were sent to it alone, and X, Q and R are each the OR of theirs: all 0 where no station is addressed,
+ * or none accepts. With 28 and 30 X is 1, Q 0 (for f = 27: I) and R 0; not accepted they are all 0, which is an answer, and no refusal: the call returns 0.
  *
  * A PUT is a write scan: the path of a scan, with F16. Each cycle offers the first word not used up, and Q = 1 uses it up. End 1: all `limit` words are
  * used up. End 2: past `to`. A put of lent words reads the buffer; both puts leave it as it is.
@@ -58,7 +72,7 @@
  *
  * AN ANSWER: four words.
  *   0 refused               the refusal number, 0, 0
- *   1 a command             X, Q, R
+ *   1 a command             X, Q, R, whatever its n, also where it is not accepted
  *   2 a front event         its digit, 0, 0
  *                           0  not taken: I is 1, a is r or above, or the station is empty or an output register
  *                           1  taken, and no status bit of the station went from 0 to 1
@@ -87,10 +101,11 @@ extern "C" {
 enum pagontxu_refusal {
     PAGONTXU_FINE = 0,
     PAGONTXU_GARBLED = 1,             /* a line in no form of docs/RULES.md, 7, or a step's word 0 that is none of the above */
-    PAGONTXU_NO_SUCH_STATION = 2,     /* N outside 1 to 23 */
+    PAGONTXU_NO_SUCH_STATION = 2,     /* N outside 1 to 23; in a command 24, 26, 28 and 30 are good too */
     PAGONTXU_NO_SUCH_SUBADDRESS = 3,  /* A above 15 */
     PAGONTXU_NO_SUCH_FUNCTION = 4,    /* F above 31; in a transfer, not 0, 2, 3 */
-    PAGONTXU_OVERWIDE_WORD = 5,       /* w or v above 16777215; for I, v above 1; in a put of lent words, after 8, one of these above 16777215 */
+    PAGONTXU_OVERWIDE_WORD = 5,       /* w or v above 16777215; for I, v above 1; w of a command to n = 30, a = 8, f = 16 above 8388607;
+                                         in a put of lent words, after 8, one of these above 16777215 */
     PAGONTXU_CROSSED_RANGE = 6,       /* `to` below N or above 23 */
     PAGONTXU_BAD_LENGTH = 7,          /* limit outside 1 to 512, tries outside 1 to 4096 */
     PAGONTXU_SHORT_BUFFER = 8,        /* fewer than limit words of buffer (a put of one word needs none); or a step, answer, or list array with too few words */

@@ -77,8 +77,8 @@ int main(void)
         print_answer(answer, buffer);
     }
 
-    /* A run line: there is no station 24 for modules. */
-    const char *line = "op=naf n=24 a=0 f=0 w=0";
+    /* A run line that is refused: no command goes to station 25. */
+    const char *line = "op=naf n=25 a=0 f=0 w=0";
     pagontxu_run_line(memory, PAGONTXU_MEMORY_WORDS, (const uint8_t *)line, strlen(line), answer, PAGONTXU_ANSWER_WORDS, buffer, PAGONTXU_BUFFER_WORDS);
     print_answer(answer, buffer);
 

@@ -73,7 +73,7 @@ program rehearse_once
   number = pagontxu_step(memory, 768_c_size_t, put_back, 6_c_size_t, answer, 4_c_size_t, buffer, 512_c_size_t)
   call tell
   call run("op=scan n=4 a=0 f=0 to=4 limit=2")
-  call run("op=naf n=24 a=0 f=0 w=0")
+  call run("op=naf n=25 a=0 f=0 w=0")
 
 contains
 

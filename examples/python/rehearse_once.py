@@ -88,7 +88,7 @@ def main():
     print(crate.run_line(b"op=c"))
     print(crate.step(11, 4, 0, 4, 2))  # puts the words back that the scan saved in the buffer
     print(crate.run_line(b"op=scan n=4 a=0 f=0 to=4 limit=2"))
-    print(crate.run_line(b"op=naf n=24 a=0 f=0 w=0"))
+    print(crate.run_line(b"op=naf n=25 a=0 f=0 w=0"))
 
 
 if __name__ == "__main__":

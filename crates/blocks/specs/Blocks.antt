@@ -1,5 +1,5 @@
 -- The crate memory is lent as 768 words of 32 bits: 24 blocks of 32. Block n is the words from 32 n to 32 n + 31. Block 0 is the crate's own, with
--- Inhibit I in its word 0; block n, from 1 to 23, is station n's. (RULES 1.2)
+-- Inhibit I in its word 0 and the Station Number Register in its word 1; block n, from 1 to 23, is station n's. (RULES 1.2, 1.17)
 use mathlib.Core.Path.{_≡_}
 use mathlib.Core.List.{List, _++_}
 use Prim.Native.Nat.{ℕ, _+_, _*_, _<_}
@@ -12,6 +12,10 @@ word m n w = getD m (32 * n + w) 0
 -- Inhibit I
 abbrev pub inhibitOf : List ℕ → ℕ
 inhibitOf m = getD m 0 0
+
+-- the Station Number Register, word 1 of block 0: bit N - 1 belongs to station N
+abbrev pub snrOf : List ℕ → ℕ
+snrOf m = getD m 1 0
 
 -- the 32 words of block n
 unfoldable pub blockOf : List ℕ → ℕ → List ℕ

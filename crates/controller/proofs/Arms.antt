@@ -8,7 +8,8 @@ use native.Mathlib.Omega.{arith}
 use lib.ListN.{length, getD, take, replicate}
 use Rattle.station.specs.declared.Reply.{Reply}
 use Rattle.dataway.specs.Crate.{FitCrate}
-use Rattle.dataway.specs.Stations.{replyOf, afterCommand, takenOf, afterFront}
+use Rattle.dataway.specs.Stations.{takenOf, afterFront}
+use Rattle.dataway.specs.Addressed.{Commanded, sentOf}
 use Rattle.dataway.specs.Controls.{afterZ, afterC, afterI}
 use Rattle.dataway.specs.Lam.{lamOf}
 use Rattle.dataway.specs.declared.lam.LamReading.{LamReading}
@@ -34,8 +35,8 @@ use Rattle.controller.proofs.StepLaws.{done-fit}
 
 -- ---- what the calls ask for
 module _ (s : Step) (b : List ℕ) (good : isFine (stepVerdict s b) ≡ true) where
-  pub command-good : (n a f w : ℕ) → s ≡ Command n a f w → (1 ≤ n) × (n ≤ 23) × (a ≤ 15) × (f ≤ 31) × (w ≤ 16777215)
-  command-good n a f w e = command-fine n a f w (rw e at good)
+  pub command-good : (n a f w : ℕ) → s ≡ Command n a f w → (1 ≤ n) × (a ≤ 15) × (f ≤ 31) × (w ≤ 16777215)
+  command-good n a f w e = let h = command-fine n a f w (rw e at good) in (h .0, h .1, h .2, h .3)
 
   pub front-good : (n a v : ℕ) → s ≡ Front n a v → (1 ≤ n) × (n ≤ 23) × (a ≤ 15) × (v ≤ 16777215)
   front-good n a v e = front-fine n a v (rw e at good)
@@ -75,9 +76,9 @@ module _ (s : Step) (b : List ℕ) (good : isFine (stepVerdict s b) ≡ true) wh
 
 -- ---- what each arm comes to, from what its call ensures
 module _ (s : Step) (m m′ b : List ℕ) where
-  pub command-acts : (n a f w : ℕ) (r : Reply) → s ≡ Command n a f w → r ≡ replyOf m n a f w → m′ ≡ afterCommand m n a f w
+  pub command-acts : (n a f w : ℕ) (r : Reply) → s ≡ Command n a f w → sentOf m n a f w ≡ record { memory = m′; reply = r }
       → actOf m s b ≡ performed m′ (Replied r) b
-  command-acts n a f w r e p q = rw (e, p, q)
+  command-acts n a f w r e p = rw e (ap (λ (o : Commanded). performed (o .memory) (Replied (o .reply)) b) p)
 
   pub front-acts : (n a v : ℕ) (t : ℕ) → s ≡ Front n a v → t ≡ takenOf m n a v → m′ ≡ afterFront m n a v → actOf m s b ≡ performed m′ (Taken t) b
   front-acts n a v t e p q = rw (e, p, q)

@@ -8,7 +8,8 @@ use native.Mathlib.Omega.{arith}
 use lib.ListN.{length}
 use Rattle.blocks.specs.Blocks.{word}
 use Rattle.dataway.specs.Covered.{AsEmpty}
-use Rattle.dataway.proofs.CoveredLaws.{covered-empty}
+use Rattle.dataway.proofs.AddressLaws.{sent-one}
+use Rattle.dataway.proofs.CoveredLaws.{covered-empty, covered-station}
 use Rattle.step.proofs.Fine.{command-fine, front-fine, repeat-fields, stop-fields}
 use Rattle.step.specs.declared.Step.{Step}
 use Rattle.step.specs.declared.Step.the-variants.{Command, Front, Repeat, Stop}
@@ -26,8 +27,9 @@ covered-steps = record {
   command = λ m n a f w b p h g.
       let d = step-did m (Command n a f w) b (ap isRefused g) in
       let q = command-fine n a f w (d .fine) in
-      let e = as-empty m n (Command n a f w) b h d (q .0) (q .1) in
-      d .did ∙ rw (e .command a f w, e .reply a f w);
+      let hi = covered-station m (d .fit) n h in
+      let e = as-empty m n (Command n a f w) b h d (q .0) hi in
+      d .did ∙ rw (sent-one m n a f w hi, e .command a f w, e .reply a f w);
   front = λ m n a v b t h g.
       let d = step-did m (Front n a v) b (ap isRefused g) in
       let q = front-fine n a v (d .fine) in

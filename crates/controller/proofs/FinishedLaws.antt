@@ -10,7 +10,7 @@ use lib.ListN.{length, drop}
 use Rattle.station.specs.declared.Reply.{Reply}
 use Rattle.dataway.specs.Crate.{isFitCrate, FitCrate}
 use Rattle.dataway.proofs.CrateLaws.{crate-facts}
-use Rattle.dataway.proofs.ReplyLaws.{reply-bounds, not-accepted}
+use Rattle.dataway.proofs.ReplyLaws.{sent-proper}
 use Rattle.transfer.specs.Cycle.{transferOf}
 use Rattle.transfer.specs.Scan.{scanOf}
 use Rattle.transfer.specs.Walk.{Made, Walk, wordsOf, Everywhere}
@@ -133,8 +133,8 @@ Words m m′ p = (p .x < 2) × (p .q < 2) × (p .r < 2 ^ 24) × (p .x ≡ 0 → 
 act-words : (m : List ℕ) (s : Step) (b : List ℕ) (p : Reply) → FitCrate m → isFine (stepVerdict s b) ≡ true → actOf m s b .out .answer ≡ Replied p → Words m (actOf m s b .memory) p
 act-words m (Command n a f w) b p g v e = rw (sym (ap replyIn e)) (
     let h = command-fine n a f w v in
-    let k = reply-bounds m n a f w g (h .0) (h .1) (h .2) in
-    (k .0, k .1, k .2, λ z. not-accepted m n a f w g (h .0) (h .1) (h .2) z))
+    let k = sent-proper m g n a f w (h .0) (h .1) in
+    (k .0 .0, k .0 .1, k .0 .2, k .1))
 act-words m (Front n a x) b p g v e = absurd (let z : _≡_ {A = ℕ} 0 1 = cc in omega arith)
 act-words m Z b p g v e = absurd (let z : _≡_ {A = ℕ} 0 1 = cc in omega arith)
 act-words m C b p g v e = absurd (let z : _≡_ {A = ℕ} 0 1 = cc in omega arith)

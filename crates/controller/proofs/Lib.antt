@@ -10,3 +10,5 @@ pub mod ScanSamples
 pub mod NotAcceptedLaws
 pub mod FrontsLaws
 pub mod CoveredLaws
+pub mod RegisterLaws
+pub mod ManyLaws

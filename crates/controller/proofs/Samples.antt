@@ -17,6 +17,7 @@ use Rattle.station.specs.Group1.{readOf}
 use Rattle.station.specs.Command.{functionsOf, commandOf}
 use Rattle.dataway.specs.Crate.{FitCrate, emptyCrate, isFitRest, isFitStation, isFitCover, crateTests, isFitCrate}
 use Rattle.dataway.specs.Stations.{replyOf, afterCommand, occupiedBy, withModule}
+use Rattle.dataway.specs.Addressed.{sentOf}
 use Rattle.dataway.proofs.CrateLaws.{crate-facts}
 use Rattle.transfer.specs.Cycle.{keep}
 use Rattle.transfer.specs.Repeat.{repeatNext, repeatFrom}
@@ -122,6 +123,34 @@ no-sample p r =
     let z : _≡_ {A = ℕ} 0 1 = cc in
     omega arith
 
+-- ---- a command to many stations keeps two others in order: past it, the events at 3 and 5 may not change places, whatever places are named
+module _ (between : Order) (everywhere : (k : ℕ) → touches between k ≡ true) where
+  pub held-in-order : (p : List ℕ) → Rearranged touches beyond (at3 ∷ between ∷ at5 ∷ []) (at5 ∷ between ∷ at3 ∷ []) p → ⊥
+  held-in-order p r =
+      let l : 3 ≡ length p = as-long touches beyond (at3 ∷ between ∷ at5 ∷ []) (at5 ∷ between ∷ at3 ∷ []) p r in
+      let up : getD p 0 0 < getD p 1 0 = r .order 0 1 (omega arith) (omega arith) (5, omega arith, omega arith, touches-5 5, everywhere 5) in
+      let on : getD p 1 0 < getD p 2 0 = r .order 1 2 (omega arith) (omega arith) (3, omega arith, omega arith, everywhere 3, touches-3 3) in
+      let e : getD p 0 0 ≡ 0 = omega (arith, r .places 2 (omega arith)) in
+      let s : at5 ≡ at3 = rw e at (step-at touches beyond (at3 ∷ between ∷ at5 ∷ []) (at5 ∷ between ∷ at3 ∷ []) p r 0 (omega arith)) in
+      let t : Good (Front 5 0 1) ≡ Good (Front 3 0 1) = ap (λ (o : Order). o .reading) s in
+      let z : _≡_ {A = ℕ} 5 3 = cc in
+      omega arith
+
+-- one to N26, and one to N24 too, whatever the register holds
+abbrev pub toAll : Order
+toAll = order (Good (Command 26 0 0 0)) []
+
+abbrev pub toRegister : Order
+toRegister = order (Good (Command 24 0 0 0)) []
+
+pub many-sample : (p : List ℕ) → Rearranged touches beyond (at3 ∷ toAll ∷ at5 ∷ []) (at5 ∷ toAll ∷ at3 ∷ []) p → ⊥
+unfolding commandVerdict
+many-sample = held-in-order toAll (λ k. refl)
+
+pub register-sample : (p : List ℕ) → Rearranged touches beyond (at3 ∷ toRegister ∷ at5 ∷ []) (at5 ∷ toRegister ∷ at3 ∷ []) p → ⊥
+unfolding commandVerdict
+register-sample = held-in-order toRegister (λ k. refl)
+
 -- ---- a command moves past a Repeat past a Stop: each touches its own station only
 abbrev pub command3 : Order
 command3 = order (Good (Command 3 0 0 0)) []
@@ -205,7 +234,7 @@ around5-fit = refl
 
 pub three-sample : outs leaves gives around5 (command3 ∷ repeat5 ∷ stop7 ∷ []) ≡ replied ∷ three ∷ reached ∷ []
 unfolding blockOf withBlock inTable sourcesOf isUsed headerTests isFitHeader isFitSpare isFitRegister fitTests isFitBlock isFitRest isFitStation isFitCover crateTests
-    isFitCrate withModule occupiedBy readOf functionsOf commandOf replyOf afterCommand keep repeatNext repeatFrom stopNext stopFrom commandVerdict repeatVerdict stopVerdict
+    isFitCrate withModule occupiedBy readOf functionsOf commandOf replyOf afterCommand sentOf keep repeatNext repeatFrom stopNext stopFrom commandVerdict repeatVerdict stopVerdict
     stepOf doneOf
 three-sample = refl
 

@@ -12,6 +12,7 @@ use Rattle.station.specs.Group1.{readOf, readAndClearOf, overwriteOf}
 use Rattle.station.specs.Command.{functionsOf, commandOf}
 use Rattle.dataway.specs.Crate.{emptyCrate, isFitRest, isFitStation, isFitCover, crateTests, isFitCrate}
 use Rattle.dataway.specs.Stations.{replyOf, afterCommand}
+use Rattle.dataway.specs.Addressed.{sentOf}
 use Rattle.transfer.specs.Scan.{scanning, scanFrom, scanCycle, scanNext}
 use Rattle.transfer.specs.Held.{heldIn, heldFrom}
 use Rattle.step.specs.Verdict.{commandVerdict, scanVerdict, putVerdict, putLentVerdict}
@@ -62,6 +63,6 @@ pub scan-samples :
     × (take 2 (gives crate (scan 2 1 0 4 2 sevens) .buffer) ≡ 0 ∷ 13 ∷ [])
     × (heldFrom crate 3 2 1 ≡ 0 ∷ 13 ∷ 21 ∷ [])
 unfolding blockOf withBlock inTable sourcesOf isUsed headerTests isFitHeader isFitSpare isFitRegister fitTests isFitBlock isFitRest isFitStation isFitCover crateTests
-    isFitCrate withoutOldest bufferReadOf bufferReadAndClearOf readOf readAndClearOf overwriteOf functionsOf commandOf replyOf afterCommand scanning scanFrom
+    isFitCrate withoutOldest bufferReadOf bufferReadAndClearOf readOf readAndClearOf overwriteOf functionsOf commandOf replyOf afterCommand sentOf scanning scanFrom
     scanCycle scanNext heldIn heldFrom commandVerdict scanVerdict putVerdict putLentVerdict stepOf doneOf
 scan-samples = (refl, refl, refl, refl, refl, refl, refl, refl, refl, refl, refl, refl, refl, refl)

@@ -10,11 +10,13 @@ use Rattle.regroup.specs.Local.{Local}
 use Rattle.regroup.specs.Lists.{Law}
 use Rattle.regroup.proofs.Local.{local-none, local-map}
 use Rattle.regroup.proofs.Whole.{regroup}
+use native.Mathlib.Omega.{arith}
 use Rattle.station.specs.declared.Reply.{Reply}
 use Rattle.dataway.specs.Crate.{FitCrate}
-use Rattle.dataway.specs.Stations.{replyOf, afterCommand, takenOf, afterFront}
+use Rattle.dataway.specs.Stations.{takenOf, afterFront}
+use Rattle.dataway.specs.Addressed.{sentOf}
 use Rattle.dataway.proofs.CrateLaws.{facts-crate}
-use Rattle.dataway.proofs.Locality.{crate-size, local-command, local-front, local-z, local-c, local-i, local-lam}
+use Rattle.dataway.proofs.Locality.{crate-size, local-same, local-sent, local-front, local-z, local-c, local-i, local-lam}
 use Rattle.transfer.specs.Cycle.{Told, told}
 use Rattle.transfer.specs.Scan.{scanOf}
 use Rattle.transfer.specs.Repeat.{repeatOf}
@@ -37,15 +39,6 @@ use Rattle.controller.specs.declared.Answer.the-variants.{Replied, Taken
 use Rattle.controller.specs.Steps.{Order, Out, Performed, refused, actOf, judgedOf, readingDone, doneOf, stepOf, leaves, gives, touches}
 use Rattle.controller.specs.Regrouping.{beyond, Regrouping}
 
--- two ways to say one thing of fit crates
-local-same : {Out : Type 0} (on : ℕ → Bool) (f f′ : List ℕ → List ℕ) (g g′ : List ℕ → Out)
-    → ((m : List ℕ) → FitCrate m → f′ m ≡ f m) → ((m : List ℕ) → FitCrate m → g′ m ≡ g m) → Local FitCrate on f g → Local FitCrate on f′ g′
-local-same on f f′ g g′ ef eg l = record {
-  keeps = λ m q. rw (ef m q) (l .keeps m q);
-  frame = λ m q n a b h. rw (ef m q) (l .frame m q n a b h);
-  reads = λ m m′ q q′ s. rw (ef m q, ef m′ q′, eg m q, eg m′ q′) (l .reads m m′ q q′ s);
-}
-
 -- what a transfer tells, with the buffer that it was lent
 abbrev toldOut : List ℕ → Told → Out
 toldOut b t = record {
@@ -63,9 +56,9 @@ good : (s : Step) (b : List ℕ) → isFine (stepVerdict s b) ≡ true
 good (Command n a f w) b e =
     let h = command-fine n a f w e in
     let on = reach (Command n a f w) in
-    local-map FitCrate crate-size on (λ (m : List ℕ). afterCommand m n a f w) (λ (m : List ℕ). replyOf m n a f w)
+    local-map FitCrate crate-size on (λ (m : List ℕ). sentOf m n a f w .memory) (λ (m : List ℕ). sentOf m n a f w .reply)
     (λ (r : Reply). record { answer = Replied r; buffer = b })
-    (local-command on n (h .0) (h .1) (eq-eqb n n refl) a f w (h .2) (h .4))
+    (local-sent n a f w (h .0) (h .1) (h .3) (λ x y z. let l = h .4 x y z in omega arith))
 good (Front n a v) b e =
     let h = front-fine n a v e in
     let on = reach (Front n a v) in
@@ -134,7 +127,8 @@ local-step o =
     (λ m q. ap (λ (p : Performed). p .out) (step-done m o q))
     (local-done o)
 
--- THE LAW: a step from a fit crate keeps it fit, changes only the blocks that it touches, and I, and reads only those
+-- THE LAW: a step from a fit crate keeps it fit, changes only the blocks that it touches, and I, and reads only those; only one that touches all 23 changes the
+-- rest of block 0, the Station Number Register, or reads it
 pub law : Law leaves gives FitCrate touches
 law = record { size = crate-size; local = local-step }
 

@@ -8,3 +8,5 @@ pub mod Scans
 pub mod NotAccepted
 pub mod Fronts
 pub mod Covered
+pub mod Register
+pub mod Many

@@ -5,7 +5,8 @@ use mathlib.Core.Bool.{Bool, cond}
 use mathlib.Core.List.{List}
 use lib.ListN.{take, replicate}
 use Rattle.dataway.specs.Crate.{isFitCrate}
-use Rattle.dataway.specs.Stations.{replyOf, afterCommand, takenOf, afterFront}
+use Rattle.dataway.specs.Stations.{takenOf, afterFront}
+use Rattle.dataway.specs.Addressed.{sentOf}
 use Rattle.dataway.specs.Controls.{afterZ, afterC, afterI}
 use Rattle.dataway.specs.Lam.{lamOf}
 use Rattle.transfer.specs.Cycle.{Ended, transferOf, bufferAfter}
@@ -61,7 +62,7 @@ refused q m b = performed m (Refused q) b
 
 -- what each kind of step does, where it is not refused; a put offers `limit` words, each w, or the first `limit` words of its buffer
 abbrev pub actOf : List ℕ → Step → List ℕ → Performed
-actOf m (Command n a f w) b = performed (afterCommand m n a f w) (Replied (replyOf m n a f w)) b
+actOf m (Command n a f w) b = performed (sentOf m n a f w .memory) (Replied (sentOf m n a f w .reply)) b
 actOf m (Front n a v) b = performed (afterFront m n a v) (Taken (takenOf m n a v)) b
 actOf m Z b = performed (afterZ m) Done b
 actOf m C b = performed (afterC m) Done b

@@ -42,7 +42,7 @@ fn act(memory: &mut [u32], step: Step, buffer: &mut [u32]) -> Answer
     ensures { λ r. ⌜ actOf (now (memory .entry)) step (now (buffer .entry)) ≡ performed (now (memory .exit)) r (now (buffer .exit)) ⌝ }
 {
     match step {
-        Step::Command { n, a, f, w } => Answer::Replied(dataway::command(memory, n, a, f, w)),
+        Step::Command { n, a, f, w } => Answer::Replied(dataway::send(memory, n, a, f, w)),
         Step::Front { n, a, v } => Answer::Taken(dataway::front_event(memory, n, a, v)),
         Step::Z => {
             control::initialize(memory);

@@ -16,7 +16,7 @@ use Rattle.kinds.proofs.TestLaws.{alike}
 use Rattle.station.proofs.ControlLaws.{initialized-kept, cleared-kept}
 use Rattle.dataway.specs.Crate.{FitCrate}
 use Rattle.dataway.specs.Controls.{eachStation, afterZ, afterC, afterI}
-use Rattle.dataway.proofs.CrateLaws.{fit-with, fit-inhibit}
+use Rattle.dataway.proofs.CrateLaws.{fit-with, fit-inhibit, fit-snr}
 
 -- from a fit memory m, with g that leaves each fit block a fit one of the same module
 module _ (g : ℕ → List ℕ → List ℕ) (keep : (n : ℕ) (b : List ℕ) → FitBlock b → Kept b (g n b)) (m : List ℕ) (f : FitCrate m) where
@@ -29,14 +29,26 @@ module _ (g : ℕ → List ℕ → List ℕ) (keep : (n : ℕ) (b : List ℕ) �
   each-size (suc k) l =
       length-with (eachStation g k m) (suc k) (g (suc k) (blockOf m (suc k))) (each-size k (omega arith)) (omega arith) (new-block k l .fit .long)
 
-  -- the stations above k keep their blocks
-  pub each-later : (k n : ℕ) → k < n → n ≤ 23 → blockOf (eachStation g k m) n ≡ blockOf m n
+  -- a block that is none of 1 to k stays
+  each-other : (k n : ℕ) → k ≤ 23 → ((j : ℕ) → 1 ≤ j → j ≤ k → n ≡ j → ⊥) → blockOf (eachStation g k m) n ≡ blockOf m n
   unfolding eachStation
-  each-later zero n h l = refl
-  each-later (suc k) n h l =
+  each-other zero n l d = refl
+  each-other (suc k) n l d =
       block-other (eachStation g k m) (suc k) (g (suc k) (blockOf m (suc k))) (each-size k (omega arith)) (omega arith)
-      (new-block k (omega arith) .fit .long) n (λ e. omega arith)
-      ∙ each-later k n (omega arith) l
+      (new-block k l .fit .long) n (d (suc k) (omega arith) (omega arith))
+      ∙ each-other k n (omega arith) (λ j lo hi. d j lo (omega arith))
+
+  -- those of the stations above k
+  pub each-later : (k n : ℕ) → k < n → n ≤ 23 → blockOf (eachStation g k m) n ≡ blockOf m n
+  each-later k n h l = each-other k n (omega arith) (λ j lo hi e. omega arith)
+
+  -- and block 0
+  pub each-front : (k : ℕ) → k ≤ 23 → blockOf (eachStation g k m) 0 ≡ blockOf m 0
+  each-front k l = each-other k 0 l (λ j lo hi e. omega arith)
+
+  -- a memory that a loop over the stations has come to has 768 words
+  pub each-long : (k : ℕ) (x : List ℕ) → k ≤ 23 → x ≡ eachStation g k m → length x ≡ 768
+  each-long k x l e = ap length e ∙ each-size k l
 
   -- the memory stays fit: each block is replaced by one of the same module
   pub each-fit : (k : ℕ) → k ≤ 23 → FitCrate (eachStation g k m)
@@ -80,7 +92,8 @@ i-fit m v h l = fit-inhibit m v h l
 pub z-fit : (m : List ℕ) → FitCrate m → FitCrate (afterZ m)
 unfolding afterZ
 z-fit m h =
-    i-fit (eachStation (λ n. initializedOf) 23 m) 1 (each-fit (λ n. initializedOf) (λ n. initialized-kept) m h 23 (omega arith)) (omega arith)
+    fit-snr (afterI (eachStation (λ n. initializedOf) 23 m) 1) 0
+    (i-fit (eachStation (λ n. initializedOf) 23 m) 1 (each-fit (λ n. initializedOf) (λ n. initialized-kept) m h 23 (omega arith)) (omega arith)) (omega arith)
 
 pub c-fit : (m : List ℕ) → FitCrate m → FitCrate (afterC m)
 unfolding afterC

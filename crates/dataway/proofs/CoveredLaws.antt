@@ -1,9 +1,13 @@
 -- A covered station of a fit crate is empty, and so it answers as an empty one.
 -- Assumes nothing.
-use Prim.Native.Nat.{ℕ, _≤_}
+use Prim.Native.Nat.{ℕ, _≤_, _<_}
 use mathlib.Core.Path.{_≡_, refl, ap, _∙_}
+use mathlib.Core.Bool.{Bool, true, false}
 use mathlib.Core.List.{List}
 use native.Mathlib.Omega.{arith}
+use borrow.Author.Tests.{leb-true, leb-false}
+use lib.Dec.{leb}
+use lib.ListN.{List·getD-eq-default}
 use Rattle.blocks.specs.Blocks.{word, blockOf, withBlock, inhibitOf}
 use Rattle.blocks.proofs.Blocks.{word-block, put-block}
 use Rattle.kinds.specs.Table.{inTable}
@@ -44,6 +48,16 @@ covered-empty m f n lo hi covered =
     let fit = f .station n lo hi in
     let one : coveredOf (blockOf m n) ≡ 1 = word-block m n 7 (omega arith) ∙ covered in
     empty-answers m f n lo hi (covered-kind (kindOf (blockOf m n)) (omega (arith, fit .mostCovered, one)))
+
+-- what is covered is a station: past the memory's end there is no word
+pub covered-station : (m : List ℕ) → FitCrate m → (n : ℕ) → word m n 7 ≡ 1 → n ≤ 23
+covered-station m f n covered = go (leb n 23) (leb-true n 23) (leb-false n 23)
+  where
+    go : (t : Bool) → (t ≡ true → n ≤ 23) → (t ≡ false → 23 < n) → n ≤ 23
+    go true below above = below refl
+    go false below above =
+        let past : word m n 7 ≡ 0 = List·getD-eq-default m 0 (omega (arith, f .size, above refl)) in
+        absurd (omega (arith, covered, past))
 
 -- there are such stations: a scaler two stations wide in 5 covers 6
 abbrev wide5 : Module

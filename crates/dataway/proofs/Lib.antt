@@ -2,6 +2,7 @@ pub mod CrateLaws
 pub mod StationLaws
 pub mod ModuleLaws
 pub mod ControlLaws
+pub mod AddressLaws
 pub mod LamLaws
 pub mod Locality
 pub mod AskingLaws

@@ -61,7 +61,8 @@ blocks-uncovered m n f lo =
     record {
       size = length-set m (32 * n + 7) 0 ∙ f .size;
       inhibit = rw (getD-set-other m (32 * n + 7) 0 0 0 (λ e. omega arith)) (f .inhibit);
-      rest = λ i h. getD-set-other m (32 * n + 7) (1 + i) 0 0 (λ e. omega arith) ∙ f .rest i h;
+      snr = rw (getD-set-other m (32 * n + 7) 1 0 0 (λ e. omega arith)) (f .snr);
+      rest = λ i h. getD-set-other m (32 * n + 7) (2 + i) 0 0 (λ e. omega arith) ∙ f .rest i h;
       station = λ i p q.
           ⊎-elim
           (λ (e : i ≡ n).

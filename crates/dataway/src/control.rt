@@ -1,13 +1,14 @@
-// The common controls: Z and C at every station, and Inhibit.
+// The common controls: Z and C at every station, and Inhibit. And the Station Number Register.
 ghost use mathlib.Core.Path.{_≡_};
 ghost use Prim.Native.Nat.{_≤_};
 ghost use Rattle.blocks.specs.Blocks.{blockOf, withBlock};
 ghost use Rattle.station.specs.Block.{FitBlock};
 ghost use Rattle.station.specs.Control.{initializedOf, clearedOf};
 ghost use Rattle.dataway.specs.Crate.{FitCrate};
-ghost use Rattle.dataway.specs.Controls.{afterZ, afterC, afterI};
+ghost use Rattle.dataway.specs.Controls.{afterZ, afterC, afterI, afterSnr};
 ghost use lib.ListN.{length};
 use crate::INHIBIT;
+use crate::STATION_NUMBERS;
 use blocks::BLOCK_WORDS;
 use blocks::STATIONS;
 
@@ -31,7 +32,7 @@ fn clear_station(memory: &mut [u32], n: usize)
     panel::control::clear(&mut memory[from..to]);
 }
 
-// Z: every station, and Inhibit set.
+// Z: every station, Inhibit set, and the Station Number Register emptied.
 pub fn initialize(memory: &mut [u32])
     requires { ⌜ FitCrate (now memory) ⌝ }
     ensures { λ _. ⌜ now (memory .exit) ≡ afterZ (now (memory .entry)) ⌝ }
@@ -42,6 +43,7 @@ pub fn initialize(memory: &mut [u32])
         k += 1;
     }
     memory[INHIBIT] = 1;
+    memory[STATION_NUMBERS] = 0;
 }
 
 // C: every station.
@@ -63,4 +65,12 @@ pub fn set_inhibit(memory: &mut [u32], v: u32)
     ensures { λ _. ⌜ now (memory .exit) ≡ afterI (now (memory .entry)) v ⌝ }
 {
     memory[INHIBIT] = v;
+}
+
+// The Station Number Register takes w.
+pub fn load_stations(memory: &mut [u32], w: u32)
+    requires { ⌜ FitCrate (now memory) ⌝ }
+    ensures { λ _. ⌜ now (memory .exit) ≡ afterSnr (now (memory .entry)) w ⌝ }
+{
+    memory[STATION_NUMBERS] = w;
 }

@@ -5,6 +5,7 @@ ghost use Prim.Native.Nat.{_<_};
 ghost use Rattle.kinds.specs.Cases.{every};
 ghost use Rattle.dataway.specs.Crate.{isFitRest, isFitStation, isFitCover, isFitCrate};
 use crate::INHIBIT;
+use crate::STATION_NUMBERS;
 use blocks::BLOCK_WORDS;
 use blocks::MEMORY_WORDS;
 use blocks::STATIONS;
@@ -12,14 +13,17 @@ use panel::fitness::is_fit_block;
 use station::block::COVERED;
 use station::block::WIDTH;
 
-// Block 0 after Inhibit.
+// 2^23: the Station Number Register is below it.
+const REGISTER_SPAN: u32 = 8388608;
+
+// Block 0 after Inhibit and the Station Number Register.
 fn is_rest_zero(memory: &[u32]) -> bool
     requires { ⌜ length (now memory) ≡ 768 ⌝ }
-    ensures { λ r. ⌜ r ≡ every 31 (isFitRest (now (memory .entry))) ⌝ }
+    ensures { λ r. ⌜ r ≡ every 30 (isFitRest (now (memory .entry))) ⌝ }
 {
     let mut i = 0;
-    while i < 31 {
-        if memory[1 + i] != 0 {
+    while i < 30 {
+        if memory[2 + i] != 0 {
             return false;
         }
         i += 1;
@@ -89,6 +93,9 @@ pub fn is_fit_crate(memory: &[u32]) -> bool
         return false;
     }
     if 2 <= memory[INHIBIT] {
+        return false;
+    }
+    if REGISTER_SPAN <= memory[STATION_NUMBERS] {
         return false;
     }
     if !is_rest_zero(memory) {

@@ -1,4 +1,4 @@
-// The Dataway of one crate, over the lent crate memory: what reaches a station of it, the common controls, the Look-at-Me reading, and the
+// The Dataway of one crate, over the lent crate memory: what reaches a station of it, many, or the controller, the common controls, the Look-at-Me reading, and the
 // test whether the memory is fit.
 ghost use mathlib.Core.Path.{_≡_};
 ghost use Prim.Native.Nat.{_≤_};
@@ -7,20 +7,33 @@ ghost use Rattle.blocks.specs.Blocks.{word, withBlock};
 ghost use Rattle.kinds.specs.Table.{FitModule};
 ghost use Rattle.station.specs.Control.{moduleOf, coveredBlock};
 ghost use Rattle.dataway.specs.Crate.{FitCrate};
+ghost use Rattle.dataway.specs.Addressed.{Commanded, sentOf};
 ghost use Rattle.dataway.specs.Stations.{replyOf, afterCommand, takenOf, afterFront, occupiedBy, uncovered, withModule};
+use address::ALL_STATIONS;
+use address::command_many;
+use address::common;
+use address::internal;
 use blocks::BLOCK_WORDS;
 use blocks::STATIONS;
 use kinds::Module;
+use station::NOT_ACCEPTED;
 use station::Reply;
 use station::block::COVERED;
 use station::block::zero;
 
+mod address;
 pub mod control;
 pub mod fitness;
 pub mod lam;
 
 // Where Inhibit stands in the memory.
 pub const INHIBIT: usize = 0;
+
+// And the Station Number Register.
+pub const STATION_NUMBERS: usize = 1;
+
+// The N of the last station.
+const LAST_STATION: u32 = 23;
 
 // One command to station n.
 pub fn command(memory: &mut [u32], n: u32, a: u32, f: u32, w: u32) -> Reply
@@ -32,6 +45,27 @@ pub fn command(memory: &mut [u32], n: u32, a: u32, f: u32, w: u32) -> Reply
     let from = BLOCK_WORDS * n as usize;
     let to = from + BLOCK_WORDS;
     station::command(&mut memory[from..to], a, f, w)
+}
+
+// A command to N: a station, the stations of the Station Number Register, all 23, or the controller itself.
+pub fn send(memory: &mut [u32], n: u32, a: u32, f: u32, w: u32) -> Reply
+    requires { ⌜ FitCrate (now memory) ⌝ }
+    requires { ⌜ (1 ≤ n) × (a ≤ 15) × (f ≤ 31) × (w ≤ 16777215) ⌝ }
+    ensures { λ r. ⌜ sentOf (now (memory .entry)) n a f w ≡ record { memory = now (memory .exit); reply = r } ⌝ }
+{
+    if n <= LAST_STATION {
+        return command(memory, n, a, f, w);
+    }
+    match n {
+        24 => {
+            let pattern = memory[STATION_NUMBERS];
+            command_many(memory, pattern, a, f, w)
+        }
+        26 => command_many(memory, ALL_STATIONS, a, f, w),
+        28 => common(memory, a, f),
+        30 => internal(memory, a, f, w),
+        _ => NOT_ACCEPTED,
+    }
 }
 
 // One cycle of a block transfer at station n.

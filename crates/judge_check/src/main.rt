@@ -147,12 +147,12 @@ fn commands() {
     command(0, 0, 0, 0);
     command(1, 0, 0, 0);
     command(23, 15, 31, 16777215);
-    command(24, 0, 0, 0);
+    command(25, 0, 0, 0);
     command(23, 16, 0, 0);
     command(1, 15, 32, 0);
     command(1, 0, 31, 16777216);
     // one fault fewer on the left each time
-    command(24, 16, 32, 16777216);
+    command(25, 16, 32, 16777216);
     command(1, 16, 32, 16777216);
     command(1, 15, 32, 16777216);
     command(99999999, 0, 0, 0);
@@ -352,6 +352,63 @@ fn cover_orders() {
     crate_line(9, 0, 10, 1, 1, 2);
 }
 
+fn command_stations() {
+    // beside the stations a command takes 24, 26, 28 and 30
+    command(0, 8, 26, 0);
+    command(23, 8, 26, 0);
+    command(24, 8, 26, 0);
+    command(25, 8, 26, 0);
+    command(26, 8, 26, 0);
+    command(27, 8, 26, 0);
+    command(28, 8, 26, 0);
+    command(29, 8, 26, 0);
+    command(30, 8, 26, 0);
+    command(31, 8, 26, 0);
+    command(32, 8, 26, 0);
+}
+
+fn command_words() {
+    // 23 bits at N30 A8 F16, which loads the Station Number Register
+    command(30, 8, 16, 8388607);
+    command(30, 8, 16, 8388608);
+    command(30, 8, 16, 16777215);
+    command(30, 8, 16, 16777216);
+    // 24 at any other F, A and N
+    command(30, 8, 17, 8388608);
+    command(30, 9, 16, 8388608);
+    command(28, 8, 16, 8388608);
+    command(24, 8, 16, 16777215);
+    command(24, 8, 16, 16777216);
+    command(26, 8, 16, 16777215);
+    command(26, 8, 16, 16777216);
+    command(28, 8, 16, 16777216);
+    command(30, 8, 17, 16777216);
+}
+
+fn command_orders() {
+    // one fault fewer on the left each time
+    command(25, 16, 16, 8388608);
+    command(30, 16, 32, 16777216);
+    command(30, 16, 16, 16777216);
+    command(30, 8, 32, 16777216);
+    command(30, 8, 32, 8388608);
+    command(30, 8, 16, 8388608);
+    command(24, 16, 32, 16777216);
+    command(26, 15, 32, 16777216);
+    command(28, 15, 31, 16777216);
+}
+
+// All but a command is refused with 2 at every N above 23.
+fn no_station(n: u32) {
+    front(n, 0, 0);
+    scan(1, n, 0, 0, n, 1);
+    repeat(1, n, 0, 0, 1, 1);
+    stop(1, n, 0, 0, 1);
+    put(n, 0, n, 1, 0);
+    put_lent(1, 0, 0, n, 0, n, 1);
+    module(0, n, 1, 1);
+}
+
 fn main() {
     // the two that no field decides
     show(Verdict::Refuse(Refusal::Garbled));
@@ -371,4 +428,11 @@ fn main() {
     last_stations();
     covers();
     cover_orders();
+    command_stations();
+    command_words();
+    command_orders();
+    no_station(24);
+    no_station(26);
+    no_station(28);
+    no_station(30);
 }

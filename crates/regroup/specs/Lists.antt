@@ -45,7 +45,7 @@ pub record Rearranged {Step : Type 0} (touches : Step → ℕ → Bool) (d : Ste
   -- of two steps that touch a station in common, the one that is first in ys was first in xs
   pub order : (j k : ℕ) → j < k → k < length p → Common touches (getD ys j d) (getD ys k d) → getD p j 0 < getD p k 0
 
--- One law for all steps: a step from a fit memory changes and reads only the blocks that it touches, and I
+-- One law for all steps: a step from a fit memory changes and reads only the blocks that it touches, and I; the Station Number Register only if it touches all 23
 pub record Law {Step Out : Type 0} (does : List ℕ → Step → List ℕ) (gives : List ℕ → Step → Out)
     (fit : List ℕ → Type 0) (touches : Step → ℕ → Bool) : Type 0 where
   -- a fit memory has 768 words

@@ -1,5 +1,6 @@
 -- What keeps to a set of stations: it changes only their blocks, and what it does hangs on those blocks and Inhibit I alone. Only what keeps to all
--- 23 may change block 0, or hang on more of it than I. A set of stations is `on`: station n is in it where `on n` is true.
+-- 23 may change block 0, where I and the Station Number Register stand, or hang on more of it than I, and so on the register. A set of stations is `on`:
+-- station n is in it where `on n` is true.
 use mathlib.Core.Path.{_≡_}
 use mathlib.Core.Bool.{Bool, true, false}
 use mathlib.Core.List.{List}

@@ -1,6 +1,6 @@
 -- What a fine verdict says of a step's fields: each test of the list was passed, so each field is within its bounds.
 use mathlib.Core.Path.{_≡_, refl}
-use mathlib.Core.Bool.{Bool, true, false, false≢true, _||_, and-eq-true-iff}
+use mathlib.Core.Bool.{Bool, true, false, false≢true, cond, _&&_, _||_, and-eq-true-iff}
 use mathlib.Core.List.{List, [], _∷_}
 use Prim.Native.Nat.{ℕ, zero, suc, _≤_}
 use native.Mathlib.Omega.{arith}
@@ -14,6 +14,7 @@ use Rattle.step.specs.declared.Verdict.the-variants.{Fine}
 use Rattle.step.specs.Verdict.{within, unless, isFine, transfer, stationThen, subaddressThen, transferThen}
 use Rattle.step.specs.Verdict.{commandVerdict, frontVerdict, inhibitVerdict, scanVerdict, repeatVerdict, stopVerdict}
 use Rattle.step.specs.Verdict.{areNarrow, putVerdict, putLentVerdict}
+use Rattle.step.specs.Verdict.{commandStation, commandStationThen, widestOf}
 
 -- the test was passed, and what follows it is fine
 pub unless-fine : (t : Bool) (q : Refusal) (v : Verdict) → isFine (unless t q v) ≡ true → (t ≡ true) × (isFine v ≡ true)
@@ -48,7 +49,7 @@ within-fine low x high q v e =
     let b = within-bounds low x high (p .0) in
     (b .0, b .1, p .1)
 
--- N and A, with which five kinds of step begin
+-- N and A, with which six kinds of step begin
 address-fine : (n a : ℕ) (v : Verdict) → isFine (stationThen n (subaddressThen a v)) ≡ true → (1 ≤ n) × (n ≤ 23) × (a ≤ 15) × (isFine v ≡ true)
 address-fine n a v e =
     let p = within-fine 1 n 23 NoSuchStation (subaddressThen a v) e in
@@ -63,14 +64,39 @@ transfer-fine n a f v e =
     let q = unless-fine (transfer f) NoSuchFunction v (p .3) in
     (p .0, p .1, p .2, q .0, q .1)
 
+-- N and A of a command
+command-address : (n a : ℕ) (v : Verdict) → isFine (commandStationThen n (subaddressThen a v)) ≡ true → (commandStation n ≡ true) × (a ≤ 15) × (isFine v ≡ true)
+command-address n a v e =
+    let p = unless-fine (commandStation n) NoSuchStation (subaddressThen a v) e in
+    let q = most-fine a 15 NoSuchSubaddress v (p .1) in
+    (p .0, q .0, q .1)
+
+-- the N of a command is not 0
+station-low : (n : ℕ) → commandStation n ≡ true → 1 ≤ n
+station-low zero e = absurd (false≢true e)
+station-low (suc n) e = omega arith
+
+-- no command takes a word of more than 24 bits
+widest-most : (n a f : ℕ) → widestOf n a f ≤ 16777215
+widest-most n a f = go (eqb n 30 && eqb a 8 && eqb f 16)
+  where
+    go : (t : Bool) → cond t 8388607 16777215 ≤ 16777215
+    go true = omega arith
+    go false = omega arith
+
+-- nor at N30 A8 F16 one of more than 23
+widest-register : (n a f : ℕ) → n ≡ 30 → a ≡ 8 → f ≡ 16 → widestOf n a f ≡ 8388607
+widest-register n a f p q r = rw (p, q, r)
+
 -- the fields of a command
-pub command-fine : (n a f w : ℕ) → isFine (commandVerdict n a f w) ≡ true → (1 ≤ n) × (n ≤ 23) × (a ≤ 15) × (f ≤ 31) × (w ≤ 16777215)
+pub command-fine : (n a f w : ℕ) → isFine (commandVerdict n a f w) ≡ true
+    → (1 ≤ n) × (a ≤ 15) × (f ≤ 31) × (w ≤ 16777215) × (n ≡ 30 → a ≡ 8 → f ≡ 16 → w ≤ 8388607)
 unfolding commandVerdict
 command-fine n a f w e =
-    let p = address-fine n a _ e in
-    let q = most-fine f 31 NoSuchFunction _ (p .3) in
-    let r = most-fine w 16777215 OverwideWord Fine (q .1) in
-    (p .0, p .1, p .2, q .0, r .0)
+    let p = command-address n a _ e in
+    let q = most-fine f 31 NoSuchFunction _ (p .2) in
+    let r = most-fine w (widestOf n a f) OverwideWord Fine (q .1) in
+    (station-low n (p .0), p .1, q .0, omega (arith, r .0, widest-most n a f), λ x y z. omega (arith, r .0, widest-register n a f x y z))
 
 -- the fields of a front event
 pub front-fine : (n a v : ℕ) → isFine (frontVerdict n a v) ≡ true → (1 ≤ n) × (n ≤ 23) × (a ≤ 15) × (v ≤ 16777215)

@@ -1,11 +1,12 @@
 -- The test of the stations that a step touches is exact: one case a kind of step, each by the test's own bounds.
 -- Assumes nothing.
 use mathlib.Core.Path.{_≡_, refl, ap, _∙_, subst}
-use mathlib.Core.Bool.{true, false, false≢true, _&&_, and-eq-true-iff}
+use mathlib.Core.Bool.{Bool, true, false, false≢true, _&&_, and-eq-true-iff}
 use mathlib.Core.List.{List}
-use Prim.Native.Nat.{ℕ, _≤_}
+use Prim.Native.Nat.{ℕ, _≤_, _<_}
 use native.Mathlib.Omega.{arith}
-use borrow.Author.Tests.{eqb-true, eq-eqb, le-leb}
+use borrow.Author.Tests.{eqb-true, eq-eqb, leb-true, leb-false, le-leb, lt-leb}
+use lib.Dec.{leb}
 use lib.ListN.{length}
 use Rattle.step.specs.declared.Step.{Step}
 use Rattle.step.specs.declared.Step.the-variants.{Command, Front, Z, C, Inhibit, LookAtMe, Scan, Repeat, Stop, Put, PutLent}
@@ -16,12 +17,16 @@ use Rattle.step.specs.declared.Verdict.the-variants.{Fine, Refuse}
 use Rattle.step.specs.Verdict.{isFine, stepVerdict, verdictOf}
 use Rattle.step.specs.Touches.{reach, reachOf, touchesOf}
 use Rattle.step.specs.Reached.{Reached, TouchesExact}
-use Rattle.step.specs.Reached.Reached.{by-command, by-front, by-repeat, by-stop, by-scan, by-put, by-put-lent, by-z, by-c, by-i, by-look}
+use Rattle.step.specs.Reached.Reached.{by-command, by-front, by-repeat, by-stop, by-many, by-scan, by-put, by-put-lent, by-z, by-c, by-i, by-look}
 use Rattle.step.proofs.Fine.{within-bounds, command-fine, front-fine, scan-fields, repeat-fine, stop-fine, put-fields, put-lent-fields}
 
 -- what the test finds is reached
 pub reach-only : (s : Step) (k : ℕ) → 1 ≤ k → k ≤ 23 → reach s k ≡ true → Reached s k
-reach-only (Command n a f w) k lo hi e = subst (Reached (Command n a f w)) (eqb-true n k e) by-command
+reach-only (Command n a f w) k lo hi e = go (leb n 23) refl
+  where
+    go : (t : Bool) → leb n 23 ≡ t → Reached (Command n a f w) k
+    go true h = subst (Reached (Command n a f w)) (eqb-true n k (rw h at e)) (by-command (leb-true n 23 h))
+    go false h = by-many (leb-false n 23 h) lo hi
 reach-only (Front n a v) k lo hi e = subst (Reached (Front n a v)) (eqb-true n k e) by-front
 reach-only Z k lo hi e = by-z lo hi
 reach-only C k lo hi e = by-c lo hi
@@ -35,10 +40,11 @@ reach-only (PutLent n a to limit) k lo hi e = let h = within-bounds n k to e in 
 
 -- and what is reached is found
 pub reach-all : {s : Step} {k : ℕ} → Reached s k → reach s k ≡ true
-reach-all (by-command {n = n}) = eq-eqb n n refl
+reach-all (by-command {n = n} hi) = rw (le-leb n 23 hi) (eq-eqb n n refl)
 reach-all (by-front {n = n}) = eq-eqb n n refl
 reach-all (by-repeat {n = n}) = eq-eqb n n refl
 reach-all (by-stop {n = n}) = eq-eqb n n refl
+reach-all (by-many {n = n} above lo hi) = rw (lt-leb n 23 above)
 reach-all (by-scan {n = n} {to = to} {k = k} lo hi) = rw (le-leb n k lo, le-leb k to hi)
 reach-all (by-put {n = n} {to = to} {k = k} lo hi) = rw (le-leb n k lo, le-leb k to hi)
 reach-all (by-put-lent {n = n} {to = to} {k = k} lo hi) = rw (le-leb n k lo, le-leb k to hi)
@@ -49,7 +55,11 @@ reach-all (by-look lo hi) = refl
 
 -- a step that is not refused touches one of the 23 stations
 pub reaches-one : (s : Step) (b : List ℕ) → isFine (stepVerdict s b) ≡ true → (n : ℕ) × (1 ≤ n) × (n ≤ 23) × Reached s n
-reaches-one (Command n a f w) b e = let h = command-fine n a f w e in (n, h .0, h .1, by-command)
+reaches-one (Command n a f w) b e = go (leb n 23) (leb-true n 23) (leb-false n 23)
+  where
+    go : (t : Bool) → (t ≡ true → n ≤ 23) → (t ≡ false → 23 < n) → (k : ℕ) × (1 ≤ k) × (k ≤ 23) × Reached (Command n a f w) k
+    go true below above = (n, command-fine n a f w e .0, below refl, by-command (below refl))
+    go false below above = (1, omega arith, omega arith, by-many {k = 1} (above refl) (omega arith) (omega arith))
 reaches-one (Front n a v) b e = let h = front-fine n a v e in (n, h .0, h .1, by-front)
 reaches-one Z b e = (1, omega arith, omega arith, by-z {k = 1} (omega arith) (omega arith))
 reaches-one C b e = (1, omega arith, omega arith, by-c {k = 1} (omega arith) (omega arith))

@@ -1,5 +1,5 @@
--- Which stations a step touches, in plain words (RULES 5.2 to 5.5); `Touches` tests it.
-use Prim.Native.Nat.{ℕ, _≤_}
+-- Which stations a step touches, in plain words (RULES 5.2 to 5.5, 5.16); `Touches` tests it.
+use Prim.Native.Nat.{ℕ, _≤_, _<_}
 use mathlib.Core.Path.{_≡_}
 use mathlib.Core.Bool.{true}
 use mathlib.Core.List.{List}
@@ -13,11 +13,13 @@ use Rattle.step.specs.Touches.{touchesOf}
 
 -- Reached s k: step s, if it is not refused, touches station k
 pub data Reached : Step → ℕ → Type 0 where
-  -- a command, front event, Repeat or Stop touches N
-  by-command : {n a f w : ℕ} → Reached (Command n a f w) n
+  -- a command to a station, a front event, a Repeat and a Stop touch N
+  by-command : {n a f w : ℕ} → n ≤ 23 → Reached (Command n a f w) n
   by-front : {n a v : ℕ} → Reached (Front n a v) n
   by-repeat : {n a f limit tries : ℕ} → Reached (Repeat n a f limit tries) n
   by-stop : {n a f limit : ℕ} → Reached (Stop n a f limit) n
+  -- a command to N above 23, to many stations or to the controller, touches all 23
+  by-many : {n a f w k : ℕ} → 23 < n → 1 ≤ k → k ≤ 23 → Reached (Command n a f w) k
   -- a scan touches N to `to`
   by-scan : {n a f to limit k : ℕ} → n ≤ k → k ≤ to → Reached (Scan n a f to limit) k
   -- so does a put, of one word or of words lent

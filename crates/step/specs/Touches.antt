@@ -1,17 +1,18 @@
--- Steps that touch stations (RULES 5.2 to 5.5): which stations a step reaches by its fields, and which it touches, a refused step none.
+-- Steps that touch stations (RULES 5.2 to 5.5, 5.16): which stations a step reaches by its fields, and which it touches, a refused step none.
 use Prim.Native.Nat.{ℕ}
-use mathlib.Core.Bool.{Bool, true, false, _&&_}
+use mathlib.Core.Bool.{Bool, true, false, cond, _&&_}
 use mathlib.Core.List.{List}
-use lib.Dec.{eqb}
+use lib.Dec.{leb, eqb}
 use Rattle.step.specs.declared.Step.{Step}
 use Rattle.step.specs.declared.Step.the-variants.{Command, Front, Z, C, Inhibit, LookAtMe, Scan, Repeat, Stop, Put, PutLent}
 use Rattle.step.specs.declared.Reading.{Reading}
 use Rattle.step.specs.declared.Reading.the-variants.{Good, Bad}
 use Rattle.step.specs.Verdict.{within, isFine, stepVerdict, verdictOf}
 
--- the stations k of a step that is not refused: N; in a scan or a put N to `to`; in Z, C, I and the Look-at-Me reading all
+-- the stations k of a step that is not refused: N, or all where the N of a command is above 23; in a scan or a put N to `to`; in Z, C, I and the Look-at-Me
+-- reading all
 abbrev pub reach : Step → ℕ → Bool
-reach (Command n a f w) k = eqb n k
+reach (Command n a f w) k = cond (leb n 23) (eqb n k) true
 reach (Front n a v) k = eqb n k
 reach Z k = true
 reach C k = true

@@ -1,10 +1,11 @@
--- When a step is refused (RULES 6.2 to 6.8, 6.13 to 6.18, 6.21, 6.22): each row of the table of refusals is said once, as a test with what follows it.
+-- When a step is refused (RULES 6.2 to 6.8, 6.13 to 6.18, 6.21, 6.22, 6.24, 6.25): each row of the table of refusals is said once, as a test with what follows it.
 -- The verdict on a step is then the list of its fields from left to right, then the buffer: its length, and in a put of lent words the words.
 use Prim.Native.Nat.{ℕ}
-use mathlib.Core.Bool.{Bool, true, false, _&&_, _||_}
+use mathlib.Core.Bool.{Bool, true, false, cond, _&&_, _||_}
 use mathlib.Core.List.{List, [], _∷_}
 use lib.ListN.{length, take}
 use lib.Dec.{leb, eqb}
+use Rattle.kinds.specs.Cases.{isOneOf}
 use Rattle.step.specs.declared.Refusal.{Refusal}
 use Rattle.step.specs.declared.Refusal.the-variants.{NoSuchStation, NoSuchSubaddress, NoSuchFunction, OverwideWord, CrossedRange, BadLength, ShortBuffer}
 use Rattle.step.specs.declared.Step.{Step}
@@ -32,6 +33,14 @@ isFine (Refuse q) = false
 abbrev pub stationThen : ℕ → Verdict → Verdict
 stationThen n next = unless (within 1 n 23) NoSuchStation next
 
+-- the N of a command: a station; 24 and 26, which send it to many; 28 and 30, the controller itself
+abbrev pub commandStation : ℕ → Bool
+commandStation n = within 1 n 23 || isOneOf n (24 ∷ 26 ∷ 28 ∷ 30 ∷ [])
+
+-- 2, no such station: of a command
+abbrev pub commandStationThen : ℕ → Verdict → Verdict
+commandStationThen n next = unless (commandStation n) NoSuchStation next
+
 -- 3, no such subaddress: A above 15
 abbrev pub subaddressThen : ℕ → Verdict → Verdict
 subaddressThen a next = unless (leb a 15) NoSuchSubaddress next
@@ -51,6 +60,14 @@ transferThen f next = unless (transfer f) NoSuchFunction next
 -- 5, overwide word: w or v above 16,777,215
 abbrev pub wordThen : ℕ → Verdict → Verdict
 wordThen w next = unless (leb w 16777215) OverwideWord next
+
+-- the widest word of a command: 23 bits at N30 A8 F16, which loads the Station Number Register, else 24
+abbrev pub widestOf : (n a f : ℕ) → ℕ
+widestOf n a f = cond (eqb n 30 && eqb a 8 && eqb f 16) 8388607 16777215
+
+-- 5, overwide word: of a command
+abbrev pub commandWordThen : (n a f w : ℕ) → Verdict → Verdict
+commandWordThen n a f w next = unless (leb w (widestOf n a f)) OverwideWord next
 
 -- no word is above 16,777,215
 abbrev pub areNarrow : List ℕ → Bool
@@ -83,7 +100,7 @@ lentThen limit lent next = unless (leb limit lent) ShortBuffer next
 
 -- op=naf n= a= f= w=
 unfoldable pub commandVerdict : ℕ → ℕ → ℕ → ℕ → Verdict
-commandVerdict n a f w = stationThen n (subaddressThen a (functionThen f (wordThen w Fine)))
+commandVerdict n a f w = commandStationThen n (subaddressThen a (functionThen f (commandWordThen n a f w Fine)))
 
 -- op=front n= a= v=
 unfoldable pub frontVerdict : ℕ → ℕ → ℕ → Verdict

@@ -8,16 +8,19 @@ ghost use mathlib.Core.Path.{_≡_};
 ghost use Rattle.step.specs.Modules.{fitsKind, hasRoom, fitsModule, orderThen, coveredThen, moduleThen};
 ghost use Rattle.step.specs.Verdict.{within, transfer, unless, stationThen, subaddressThen, functionThen, transferThen, wordThen, inhibitThen};
 ghost use Rattle.step.specs.Verdict.{rangeThen, limitThen, triesThen, lentThen, areNarrow, offeredThen};
+ghost use Rattle.step.specs.Verdict.{commandStation, commandStationThen, widestOf, commandWordThen};
 ghost use lib.ListN.{take};
 
 // The edges of the fields.
-const LAST_STATION: u32 = 23;
+pub const LAST_STATION: u32 = 23;
 
 const LAST_SUBADDRESS: u32 = 15;
 
 const LAST_FUNCTION: u32 = 31;
 
 const WIDEST_WORD: u32 = 16777215;
+
+const WIDEST_REGISTER: u32 = 8388607;
 
 const MOST_WORDS: u32 = 512;
 
@@ -28,6 +31,41 @@ pub fn within(low: u32, x: u32, high: u32) -> bool
     ensures { λ r. ⌜ r ≡ within low x high ⌝ }
 {
     low <= x && x <= high
+}
+
+// The N of a command: a station; 24 and 26, which send it to many; 28 and 30, the controller itself.
+fn is_command_station(n: u32) -> bool
+    ensures { λ r. ⌜ r ≡ commandStation n ⌝ }
+{
+    if within(1, n, LAST_STATION) {
+        return true;
+    }
+    if n == 24 {
+        return true;
+    }
+    if n == 26 {
+        return true;
+    }
+    if n == 28 {
+        return true;
+    }
+    n == 30
+}
+
+// The widest word of a command: at N30 A8 F16 that of the Station Number Register.
+fn widest(n: u32, a: u32, f: u32) -> u32
+    ensures { λ r. ⌜ r ≡ widestOf n a f ⌝ }
+{
+    if n != 30 {
+        return WIDEST_WORD;
+    }
+    if a != 8 {
+        return WIDEST_WORD;
+    }
+    if f != 16 {
+        return WIDEST_WORD;
+    }
+    WIDEST_REGISTER
 }
 
 // The functions of a block transfer.
@@ -77,6 +115,12 @@ pub fn station_then(n: u32, rest: Verdict) -> Verdict
     unless(within(1, n, LAST_STATION), Refusal::NoSuchStation, rest)
 }
 
+pub fn command_station_then(n: u32, rest: Verdict) -> Verdict
+    ensures { λ r. ⌜ r ≡ commandStationThen n rest ⌝ }
+{
+    unless(is_command_station(n), Refusal::NoSuchStation, rest)
+}
+
 pub fn subaddress_then(a: u32, rest: Verdict) -> Verdict
     ensures { λ r. ⌜ r ≡ subaddressThen a rest ⌝ }
 {
@@ -99,6 +143,12 @@ pub fn word_then(w: u32, rest: Verdict) -> Verdict
     ensures { λ r. ⌜ r ≡ wordThen w rest ⌝ }
 {
     unless(w <= WIDEST_WORD, Refusal::OverwideWord, rest)
+}
+
+pub fn command_word_then(n: u32, a: u32, f: u32, w: u32, rest: Verdict) -> Verdict
+    ensures { λ r. ⌜ r ≡ commandWordThen n a f w rest ⌝ }
+{
+    unless(w <= widest(n, a, f), Refusal::OverwideWord, rest)
 }
 
 // None of the first `limit` words is above 24 bits.

@@ -2,6 +2,9 @@
 // The types come first, then the judging; each row of the table of refusals is a function of `fields`.
 pub mod fields;
 
+use fields::LAST_STATION;
+use fields::command_station_then;
+use fields::command_word_then;
 use fields::covered_then;
 use fields::function_then;
 use fields::inhibit_then;
@@ -167,7 +170,7 @@ pub fn reaches(step: Step, k: u32) -> bool
     ensures { λ r. ⌜ r ≡ reach step k ⌝ }
 {
     match step {
-        Step::Command { n, a, f, w } => n == k,
+        Step::Command { n, a, f, w } => if n <= LAST_STATION { n == k } else { true },
         Step::Front { n, a, v } => n == k,
         Step::Z => true,
         Step::C => true,
@@ -201,8 +204,8 @@ pub fn judge_module(previous: u32, covered: u32, held: Module) -> Verdict
 fn judge_command(n: u32, a: u32, f: u32, w: u32) -> Verdict
     ensures { λ r. ⌜ r ≡ commandVerdict n a f w ⌝ }
 {
-    let rest = function_then(f, word_then(w, Verdict::Fine));
-    station_then(n, subaddress_then(a, rest))
+    let rest = function_then(f, command_word_then(n, a, f, w, Verdict::Fine));
+    command_station_then(n, subaddress_then(a, rest))
 }
 
 fn judge_front(n: u32, a: u32, v: u32) -> Verdict

@@ -8,8 +8,8 @@ use Rattle.controller.proofs.act.Tie as tie
 enum-known-step : tie.Need-enum-known-step
 enum-known-step c = search needs
 
-command-requires : tie.Need-command-requires
-command-requires c κs = (
+send-requires : tie.Need-send-requires
+send-requires c κs = (
   (c .before .before .before .before .before .before .pre .0),
   command-good _ _ (c .before .before .before .before .before .before .pre .1) _ _ _ _ (c .before .before .step .given .1),
 )
@@ -102,7 +102,7 @@ same-length c = search needs
 
 returns : tie.Need-returns
 returns c = command-acts _ _ _ _ _ _ _ _ _ (c .before .before .before .before .before .step .given .1)
-    (c .before .before .command .ensures .0) (c .before .before .command .ensures .1)
+    (c .before .before .send .ensures)
 
 same-length-2 : tie.Need-same-length-2
 same-length-2 c = search needs
@@ -190,7 +190,7 @@ act-spec =
     tie.close
     (tie.spec
     enum-known-step
-    command-requires
+    send-requires
     enum-known-step-2
     front-event-requires
     enum-told

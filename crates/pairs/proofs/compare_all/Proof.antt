@@ -16,7 +16,7 @@ Inv-loop text₀ line₀ first₀ second₀ out₀ k₀ text line first second o
     × (length out ≡ length out₀)
 
 abbrev μ-loop : tie.MeasureT-loop
-μ-loop text₀ line₀ first₀ second₀ out₀ k₀ text line first second out k = 30 - k
+μ-loop text₀ line₀ first₀ second₀ out₀ k₀ text line first second out k = 100 - k
 
 loop-holds : tie.Need-loop-holds Inv-loop μ-loop
 loop-holds c = (refl, refl, refl, refl, refl)

@@ -1,11 +1,11 @@
 -- `initialize` meets its contract. The loop's invariant: stations 1 to k are initialized. The memory stays fit (`each-fit`), so that the next station's
--- block is; and then Inhibit is set.
+-- block is; and then Inhibit is set, and the Station Number Register emptied.
 use Prim.Native.Nat.{ℕ, _+_, _-_, _≤_}
 use mathlib.Core.List.{List}
 use mathlib.Core.Path.{_≡_, sym, ap, _∙_}
 use native.Mathlib.Omega.{arith}
-use lib.ListN.{length, set, length-set}
-use Rattle.dataway.proofs.ControlLaws.{each-fit, each-more, each-none}
+use lib.ListN.{set, length-set}
+use Rattle.dataway.proofs.ControlLaws.{each-long, each-fit, each-more, each-none}
 use Rattle.dataway.specs.Controls.{eachStation, afterZ}
 use Rattle.dataway.specs.Crate.{FitCrate}
 use Rattle.station.specs.Control.{initializedOf}
@@ -47,21 +47,29 @@ loop-again c = (
 )
 
 slice-write-memory : tie.Need-slice-write-memory Inv-loop μ-loop
-slice-write-memory c = omega (
-  arith,
-  ap length (c .before .loop .inv .1)
-      ∙ each-fit (λ n. initializedOf) (λ n. initialized-kept) (c .before .before .before .args .memory .now) (c .before .before .before .pre)
-      (c .before .loop .k) (c .before .loop .inv .0) .size,
-)
+slice-write-memory c =
+    let at-loop = c .before in
+    let at-start = at-loop .before .before in
+    omega (arith, each-long (λ n. initializedOf) (λ n. initialized-kept) _ (at-start .pre) _ _ (at-loop .loop .inv .0) (at-loop .loop .inv .1))
+
+slice-write-memory-2 : tie.Need-slice-write-memory-2 Inv-loop μ-loop
+slice-write-memory-2 c =
+    let at-loop = c .before in
+    let at-start = at-loop .before .before in
+    simp length-set (omega (arith, each-long (λ n. initializedOf) (λ n. initialized-kept) _ (at-start .pre) _ _ (at-loop .loop .inv .0) (at-loop .loop .inv .1)))
 
 same-length : tie.Need-same-length Inv-loop μ-loop
-same-length c = length-set (c .before .loop .memory) 0 _ ∙ ap length (c .before .loop .inv .1)
-    ∙ each-fit (λ n. initializedOf) (λ n. initialized-kept) (c .before .before .before .args .memory .now) (c .before .before .before .pre)
-    (c .before .loop .k) (c .before .loop .inv .0) .size ∙ sym (c .before .before .before .pre .size)
+same-length c =
+    let at-loop = c .before in
+    let at-start = at-loop .before .before in
+    length-set (set (at-loop .loop .memory) _ _) _ _
+    ∙ length-set (at-loop .loop .memory) _ _
+    ∙ each-long (λ n. initializedOf) (λ n. initialized-kept) _ (at-start .pre) _ _ (at-loop .loop .inv .0) (at-loop .loop .inv .1)
+    ∙ sym (at-start .pre .size)
 
 returns : tie.Need-returns Inv-loop μ-loop
 unfolding afterZ
-returns c = let e : (c .before .loop .k) ≡ 23 = omega arith in ap (λ (l : List ℕ). set l 0 1) (rw e at (c .before .loop .inv .1))
+returns c = let e : (c .before .loop .k) ≡ 23 = omega arith in ap (λ (l : List ℕ). set (set l 0 1) 1 0) (rw e at (c .before .loop .inv .1))
 
 pub initialize-spec : {M : Type 1} → statement M
 initialize-spec =
@@ -76,5 +84,6 @@ initialize-spec =
     loop-less
     loop-again
     slice-write-memory
+    slice-write-memory-2
     same-length
     returns)

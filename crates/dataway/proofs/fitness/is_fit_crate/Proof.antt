@@ -1,5 +1,5 @@
--- `is_fit_crate` meets its contract: its tests are those of the definition, in their order. `at-rest`, `at-stations` and `at-covers` are the places in the code
--- where these tests have been passed.
+-- `is_fit_crate` meets its contract: its tests are those of the definition, in their order. `at-snr`, `at-rest`, `at-stations` and `at-covers` are the places in
+-- the code where these tests have been passed.
 use mathlib.Core.Path.{sym, _∙_}
 use borrow.Author.Tests.{ne-eqb, lt-ltb, le-ltb, not-true, not-false}
 use borrow.Author.Needs.{needs}
@@ -19,43 +19,59 @@ returns-2 : tie.Need-returns-2
 unfolding isFitCrate crateTests
 returns-2 c = simp ((c .before .before .if1 .left), le-ltb _ _ (c .if2 .taken))
 
-is-rest-zero-requires : tie.Need-is-rest-zero-requires
-is-rest-zero-requires c κs = search needs
+shared-slice-read-if3 : tie.Need-shared-slice-read-if3
+shared-slice-read-if3 c = search needs
 
 returns-3 : tie.Need-returns-3
 unfolding isFitCrate crateTests
-returns-3 c = simp (
-  (c .before .before .before .before .if1 .left),
-  lt-ltb _ _ (c .before .before .if2 .left),
-  sym (c .before .is-rest-zero .ensures) ∙ not-true _ (c .if3 .taken),
-)
+returns-3 c = simp ((c .before .before .before .before .if1 .left), lt-ltb _ _ (c .before .before .if2 .left), le-ltb _ _ (c .if3 .taken))
+
+is-rest-zero-requires : tie.Need-is-rest-zero-requires
+is-rest-zero-requires c κs = search needs
+
+returns-4 : tie.Need-returns-4
+unfolding isFitCrate crateTests
+returns-4 c =
+    let at-snr = c .before .before in
+    simp (
+      (at-snr .before .before .before .before .if1 .left),
+      lt-ltb _ _ (at-snr .before .before .if2 .left),
+      lt-ltb _ _ (at-snr .if3 .left),
+      sym (c .before .is-rest-zero .ensures) ∙ not-true _ (c .if4 .taken),
+    )
 
 are-stations-fit-requires : tie.Need-are-stations-fit-requires
 are-stations-fit-requires c κs = search needs
 
-returns-4 : tie.Need-returns-4
+returns-5 : tie.Need-returns-5
 unfolding isFitCrate crateTests
-returns-4 c = simp (
-  (c .before .before .before .before .before .before .if1 .left),
-  lt-ltb _ _ (c .before .before .before .before .if2 .left),
-  sym (c .before .before .before .is-rest-zero .ensures) ∙ not-false _ (c .before .before .if3 .left),
-  sym (c .before .are-stations-fit .ensures) ∙ not-true _ (c .if4 .taken),
-)
+returns-5 c =
+    let at-rest = c .before .before in
+    let at-snr = at-rest .before .before in
+    simp (
+      (at-snr .before .before .before .before .if1 .left),
+      lt-ltb _ _ (at-snr .before .before .if2 .left),
+      lt-ltb _ _ (at-snr .if3 .left),
+      sym (at-rest .before .is-rest-zero .ensures) ∙ not-false _ (at-rest .if4 .left),
+      sym (c .before .are-stations-fit .ensures) ∙ not-true _ (c .if5 .taken),
+    )
 
 are-covers-fit-requires : tie.Need-are-covers-fit-requires
 are-covers-fit-requires c κs = search needs
 
-returns-5 : tie.Need-returns-5
+returns-6 : tie.Need-returns-6
 unfolding isFitCrate crateTests
-returns-5 c =
+returns-6 c =
     let at-stations = c .before .before in
     let at-rest = at-stations .before .before in
+    let at-snr = at-rest .before .before in
     simp (
-      (at-rest .before .before .before .before .if1 .left),
-      lt-ltb _ _ (at-rest .before .before .if2 .left),
-      sym (at-rest .before .is-rest-zero .ensures) ∙ not-false _ (at-rest .if3 .left),
-      sym (at-stations .before .are-stations-fit .ensures) ∙ not-false _ (at-stations .if4 .left),
-      sym (c .before .are-covers-fit .ensures) ∙ not-true _ (c .if5 .taken),
+      (at-snr .before .before .before .before .if1 .left),
+      lt-ltb _ _ (at-snr .before .before .if2 .left),
+      lt-ltb _ _ (at-snr .if3 .left),
+      sym (at-rest .before .is-rest-zero .ensures) ∙ not-false _ (at-rest .if4 .left),
+      sym (at-stations .before .are-stations-fit .ensures) ∙ not-false _ (at-stations .if5 .left),
+      sym (c .before .are-covers-fit .ensures) ∙ not-true _ (c .if6 .taken),
     )
 
 mul-result : tie.Need-mul-result
@@ -70,17 +86,19 @@ mul-result-2 c = search needs
 shared-slice-read-result : tie.Need-shared-slice-read-result
 shared-slice-read-result c = search needs
 
-returns-6 : tie.Need-returns-6
-returns-6 c =
+returns-7 : tie.Need-returns-7
+returns-7 c =
     let at-covers = c .before in
     let at-stations = at-covers .before .before in
     let at-rest = at-stations .before .before in
-    crate-last (at-rest .before .before .before .before .before .before .args .memory .now)
-    (at-rest .before .before .before .before .if1 .left)
-    (at-rest .before .before .if2 .left)
-    (sym (at-rest .before .is-rest-zero .ensures) ∙ not-false _ (at-rest .if3 .left))
-    (sym (at-stations .before .are-stations-fit .ensures) ∙ not-false _ (at-stations .if4 .left))
-    (sym (at-covers .before .are-covers-fit .ensures) ∙ not-false _ (at-covers .if5 .left))
+    let at-snr = at-rest .before .before in
+    crate-last (at-snr .before .before .before .before .before .before .args .memory .now)
+    (at-snr .before .before .before .before .if1 .left)
+    (at-snr .before .before .if2 .left)
+    (at-snr .if3 .left)
+    (sym (at-rest .before .is-rest-zero .ensures) ∙ not-false _ (at-rest .if4 .left))
+    (sym (at-stations .before .are-stations-fit .ensures) ∙ not-false _ (at-stations .if5 .left))
+    (sym (at-covers .before .are-covers-fit .ensures) ∙ not-false _ (at-covers .if6 .left))
 
 pub is-fit-crate-spec : {M : Type 1} → statement M
 is-fit-crate-spec =
@@ -89,14 +107,16 @@ is-fit-crate-spec =
     returns
     shared-slice-read-if2
     returns-2
-    is-rest-zero-requires
+    shared-slice-read-if3
     returns-3
-    are-stations-fit-requires
+    is-rest-zero-requires
     returns-4
-    are-covers-fit-requires
+    are-stations-fit-requires
     returns-5
+    are-covers-fit-requires
+    returns-6
     mul-result
     add-result
     mul-result-2
     shared-slice-read-result
-    returns-6)
+    returns-7)

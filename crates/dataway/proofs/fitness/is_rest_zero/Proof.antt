@@ -12,10 +12,10 @@ use Rattle.dataway.proofs.fitness.is_rest_zero.Statement.{statement}
 use Rattle.dataway.proofs.fitness.is_rest_zero.Tie as tie
 
 abbrev Inv-loop : tie.InvT-loop
-Inv-loop memory i₀ i = (i ≤ 31) × (every i (isFitRest memory) ≡ true)
+Inv-loop memory i₀ i = (i ≤ 30) × (every i (isFitRest memory) ≡ true)
 
 abbrev μ-loop : tie.MeasureT-loop
-μ-loop memory i₀ i = 31 - i
+μ-loop memory i₀ i = 30 - i
 
 loop-holds : tie.Need-loop-holds Inv-loop μ-loop
 loop-holds c = (omega arith, refl)
@@ -31,7 +31,7 @@ shared-slice-read-if1 c = omega arith
 
 returns : tie.Need-returns Inv-loop μ-loop
 unfolding isFitRest
-returns c = sym (every-false 31 (isFitRest (c .before .before .before .before .args .memory .now)) (c .before .before .before .loop .i)
+returns c = sym (every-false 30 (isFitRest (c .before .before .before .before .args .memory .now)) (c .before .before .before .loop .i)
     (omega arith) (ne-eqb _ _ (c .if1 .taken)))
 
 add-i : tie.Need-add-i Inv-loop μ-loop
@@ -49,7 +49,7 @@ loop-again c = (
 )
 
 returns-2 : tie.Need-returns-2 Inv-loop μ-loop
-returns-2 c = let e : (c .before .loop .i) ≡ 31 = omega arith in sym (rw e at (c .before .loop .inv .1))
+returns-2 c = let e : (c .before .loop .i) ≡ 30 = omega arith in sym (rw e at (c .before .loop .inv .1))
 
 pub is-rest-zero-spec : {M : Type 1} → statement M
 is-rest-zero-spec =
