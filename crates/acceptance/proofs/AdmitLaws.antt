@@ -1,29 +1,48 @@
--- Laws of the classes' subaddresses: A12 to A14 as a span; a number of a list that is not its first; one test alone.
+-- Laws of the classes' subaddresses: a span as a list of numbers; a number of a list that is not its first; one test alone.
 -- Assumes nothing.
-use Prim.Native.Nat.{ℕ, _≤_, _<_}
-use mathlib.Core.Path.{_≡_, refl}
+use Prim.Native.Nat.{ℕ, suc, _≤_, _<_}
+use mathlib.Core.Path.{_≡_, refl, ap, _∙_}
 use mathlib.Core.List.{List, [], _∷_}
-use mathlib.Core.Bool.{Bool, true, false, _||_}
+use mathlib.Core.Bool.{Bool, true, false, _&&_, _||_}
 use mathlib.Core.Logic.{⊎-elim}
 use native.Mathlib.Omega.{arith}
-use borrow.Author.Tests.{ne-eqb, lt-leb}
-use lib.Dec.{leb}
+use native.Mathlib.Decide.{decLt}
+use borrow.Author.Tests.{eq-eqb, ne-eqb, le-leb, lt-leb, lt-ltb, le-ltb}
+use lib.Dec.{eqb, leb, ltb}
 use Rattle.kinds.specs.Cases.{isOneOf}
-use Rattle.kinds.proofs.TestLaws.{alike, one-of-only}
+use Rattle.kinds.proofs.TestLaws.{alike, one-of-only, both-false}
 
--- 12 to 14 are 12, 13 and 14
-pub span-from : (a : ℕ) → 12 ≤ a → leb a 14 ≡ isOneOf a (12 ∷ 13 ∷ 14 ∷ [])
-span-from a h =
-    ⊎-elim (λ (e : a ≡ 12). rw e)
-    (λ (n : a ≡ 12 → ⊥). ⊎-elim (λ (e : a ≡ 13). rw e)
-    (λ (m : a ≡ 13 → ⊥). ⊎-elim (λ (e : a ≡ 14). rw e)
-    (λ (k : a ≡ 14 → ⊥). simp (lt-leb a 14 (omega arith), ne-eqb a 12 n, ne-eqb a 13 m, ne-eqb a 14 k))
-    (alike a 14))
-    (alike a 13))
-    (alike a 12)
+-- ---- a span
+-- from `first` on: the first itself, or from the next on
+next-in : (first past a : ℕ) → first < past → leb first a && ltb a past ≡ eqb a first || leb (suc first) a && ltb a past
+next-in first past a l =
+    ⊎-elim (λ (e : a ≡ first). simp (eq-eqb a first e, le-leb first a (omega arith), lt-ltb a past (omega arith)))
+    (λ (n : a ≡ first → ⊥). elim (decLt first a) [
+      | yes h ↦ simp (ne-eqb a first n, le-leb first a (omega arith), le-leb (suc first) a (omega arith))
+      | no h ↦ simp (ne-eqb a first n, lt-leb first a (omega arith), lt-leb (suc first) a (omega arith))
+    ])
+    (alike a first)
 
-pub span-below : (a : ℕ) → a < 12 → isOneOf a (12 ∷ 13 ∷ 14 ∷ []) ≡ false
-span-below a h = simp (ne-eqb a 12 (λ e. omega arith), ne-eqb a 13 (λ e. omega arith), ne-eqb a 14 (λ e. omega arith))
+-- none is left at `past`
+none-in : (past a : ℕ) → leb past a && ltb a past ≡ false
+none-in past a = elim (decLt a past) [ yes h ↦ simp (lt-leb past a h) | no h ↦ simp (le-ltb a past (omega arith), both-false) ]
+
+-- all below `past`
+pub all-in : (past a : ℕ) → leb 0 a && ltb a past ≡ ltb a past
+all-in past a = simp (le-leb 0 a (omega arith))
+
+pub none-at-all : (a : ℕ) → leb 0 a && ltb a 0 ≡ false
+none-at-all a = none-in 0 a
+
+-- one, two and three subaddresses
+pub one-in : (first a : ℕ) → leb first a && ltb a (suc first) ≡ isOneOf a (first ∷ [])
+one-in first a = next-in first (suc first) a (omega arith) ∙ ap (λ (t : Bool). eqb a first || t) (none-in (suc first) a)
+
+pub two-in : (first a : ℕ) → leb first a && ltb a (suc (suc first)) ≡ isOneOf a (first ∷ suc first ∷ [])
+two-in first a = next-in first (suc (suc first)) a (omega arith) ∙ ap (λ (t : Bool). eqb a first || t) (one-in (suc first) a)
+
+pub three-in : (first a : ℕ) → leb first a && ltb a (suc (suc (suc first))) ≡ isOneOf a (first ∷ suc first ∷ suc (suc first) ∷ [])
+three-in first a = next-in first (suc (suc (suc first))) a (omega arith) ∙ ap (λ (t : Bool). eqb a first || t) (two-in (suc first) a)
 
 -- one test of a list of one
 pub or-none : (t : Bool) → t || false ≡ t

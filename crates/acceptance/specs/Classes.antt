@@ -1,10 +1,12 @@
 -- Which subaddresses a kind of module accepts for a function, as a class (RULES 2.31 to 2.34).
 use Prim.Native.Nat.{ℕ, _+_}
+use mathlib.Core.Path.{_≡_}
 use mathlib.Core.List.{List, [], _∷_}
 use mathlib.Core.Bool.{Bool, false, cond, _&&_}
-use lib.Dec.{eqb, ltb}
+use lib.Dec.{eqb, ltb, leb}
 use Rattle.kinds.specs.Cases.{isOneOf}
 use Rattle.acceptance.specs.declared.Class.{Class}
+use Rattle.acceptance.specs.declared.Span.{Span}
 use Rattle.acceptance.specs.declared.Class.the-variants.{None, BelowR, BelowS, A12ToA14, A12AndA13, A13Only, A0Only}
 
 -- the number of each class
@@ -30,6 +32,14 @@ admits A12ToA14 a r s = isOneOf a (12 ∷ 13 ∷ 14 ∷ [])
 admits A12AndA13 a r s = isOneOf a (12 ∷ 13 ∷ [])
 admits A13Only a r s = isOneOf a (13 ∷ [])
 admits A0Only a r s = eqb a 0
+
+-- whether subaddress a is in a span, from `first` up to `past`
+abbrev pub isIn : Span → ℕ → Bool
+isIn t a = leb (t .first) a && ltb a (t .past)
+
+-- the span t has the subaddresses of a class, and no others
+abbrev pub Spans : Span → Class → (r s : ℕ) → Type 0
+Spans t class r s = (a : ℕ) → isIn t a ≡ admits class a r s
 
 -- a row of the rule: these functions have this class, at modules of these kinds
 pub record Row : Type 0 where

@@ -1,7 +1,7 @@
 // The acceptance classes: which subaddresses a kind of module accepts for a function, as a table of 192 entries that can be laid beside a data sheet.
 ghost use mathlib.Core.Path.{_≡_};
 ghost use Prim.Native.Nat.{_<_};
-ghost use Rattle.acceptance.specs.Classes.{classNumber, digitOf, classOf, admits};
+ghost use Rattle.acceptance.specs.Classes.{classNumber, digitOf, classOf, isIn, Spans};
 
 // The classes, in 02's order.
 pub enum Class {
@@ -71,17 +71,39 @@ pub fn class_of(kind: u32, f: u32) -> Class
     }
 }
 
-// Whether a class has subaddress a, of a module with r registers and s sources.
-pub fn admits(class: Class, a: u32, r: u32, s: u32) -> bool
-    ensures { λ t. ⌜ t ≡ admits class a r s ⌝ }
+// Subaddresses from `first` up to `past`, which is not among them.
+pub struct Span {
+    pub first: u32,
+    pub past: u32,
+}
+
+// The subaddresses of a class, of a module with r registers and s sources.
+pub fn span_of(class: Class, r: u32, s: u32) -> Span
+    ensures { λ t. ⌜ Spans t class r s ⌝ }
 {
     match class {
-        Class::None => false,
-        Class::BelowR => a < r,
-        Class::BelowS => a < s,
-        Class::A12ToA14 => 12 <= a && a <= 14,
-        Class::A12AndA13 => a == 12 || a == 13,
-        Class::A13Only => a == 13,
-        Class::A0Only => a == 0,
+        Class::None => Span { first: 0, past: 0 },
+        Class::BelowR => Span { first: 0, past: r },
+        Class::BelowS => Span { first: 0, past: s },
+        Class::A12ToA14 => Span {
+            first: 12,
+            past: 15,
+        },
+        Class::A12AndA13 => Span {
+            first: 12,
+            past: 14,
+        },
+        Class::A13Only => Span {
+            first: 13,
+            past: 14,
+        },
+        Class::A0Only => Span { first: 0, past: 1 },
     }
+}
+
+// Whether a is among them.
+pub fn has(span: Span, a: u32) -> bool
+    ensures { λ t. ⌜ t ≡ isIn span a ⌝ }
+{
+    span.first <= a && a < span.past
 }

@@ -4,8 +4,8 @@ use Prim.Native.Nat.{ℕ, _≤_}
 use mathlib.Core.Path.{_≡_, sym, ap, subst, _∙_}
 use mathlib.Core.Bool.{true}
 use mathlib.Core.List.{List}
-use native.Mathlib.Omega.{arith}
 use lib.ListN.{length, getD, take, replicate}
+use Rattle.station.specs.Accepted.{ReadFunction}
 use Rattle.station.specs.declared.Reply.{Reply}
 use Rattle.dataway.specs.Crate.{FitCrate}
 use Rattle.dataway.specs.Stations.{takenOf, afterFront}
@@ -20,7 +20,7 @@ use Rattle.transfer.specs.Stop.{stopOf}
 use Rattle.transfer.specs.Put.{putOf}
 use Rattle.transfer.specs.declared.Transfer.{Transfer}
 use Rattle.step.specs.Verdict.{stepVerdict, isFine}
-use Rattle.step.proofs.Fine.{transfer-bound, command-fine, front-fine, inhibit-fine, scan-fields, repeat-fields, stop-fields, narrow-at, put-fields, put-lent-fields}
+use Rattle.step.proofs.Fine.{transfer-one-of, command-fine, front-fine, inhibit-fine, scan-fields, repeat-fields, stop-fields, narrow-at, put-fields, put-lent-fields}
 use Rattle.step.specs.declared.Refusal.{Refusal}
 use Rattle.step.specs.declared.Reading.{Reading}
 use Rattle.step.specs.declared.Reading.the-variants.{Good, Bad}
@@ -45,22 +45,22 @@ module _ (s : Step) (b : List ℕ) (good : isFine (stepVerdict s b) ≡ true) wh
   inhibit-good v e = inhibit-fine v (rw e at good)
 
   pub scan-good : (n a f to limit : ℕ) → s ≡ Scan n a f to limit
-      → (1 ≤ n) × (n ≤ to) × (to ≤ 23) × (a ≤ 15) × (f ≤ 31) × (1 ≤ limit) × (limit ≤ 512) × (limit ≤ length b)
+      → (1 ≤ n) × (n ≤ to) × (to ≤ 23) × (a ≤ 15) × ReadFunction f × (1 ≤ limit) × (limit ≤ 512) × (limit ≤ length b)
   scan-good n a f to limit e =
       let h = scan-fields n a f to limit (length b) (rw e at good) in
-      (h .0, h .4, h .5, h .2, omega (arith, transfer-bound f (h .3)), h .6, h .7, h .8)
+      (h .0, h .4, h .5, h .2, transfer-one-of f (h .3), h .6, h .7, h .8)
 
   pub repeat-good : (n a f limit tries : ℕ) → s ≡ Repeat n a f limit tries
-      → (1 ≤ n) × (n ≤ 23) × (a ≤ 15) × (f ≤ 31) × (1 ≤ limit) × (limit ≤ 512) × (limit ≤ length b) × (tries ≤ 4096)
+      → (1 ≤ n) × (n ≤ 23) × (a ≤ 15) × ReadFunction f × (1 ≤ limit) × (limit ≤ 512) × (limit ≤ length b) × (tries ≤ 4096)
   repeat-good n a f limit tries e =
       let h = repeat-fields n a f limit tries (length b) (rw e at good) in
-      (h .0, h .1, h .2, omega (arith, transfer-bound f (h .3)), h .4, h .5, h .8, h .7)
+      (h .0, h .1, h .2, transfer-one-of f (h .3), h .4, h .5, h .8, h .7)
 
   pub stop-good : (n a f limit : ℕ) → s ≡ Stop n a f limit
-      → (1 ≤ n) × (n ≤ 23) × (a ≤ 15) × (f ≤ 31) × (limit ≤ 512) × (limit ≤ length b)
+      → (1 ≤ n) × (n ≤ 23) × (a ≤ 15) × ReadFunction f × (limit ≤ 512) × (limit ≤ length b)
   stop-good n a f limit e =
       let h = stop-fields n a f limit (length b) (rw e at good) in
-      (h .0, h .1, h .2, omega (arith, transfer-bound f (h .3)), h .5, h .6)
+      (h .0, h .1, h .2, transfer-one-of f (h .3), h .5, h .6)
 
   pub put-good : (n a to limit w : ℕ) → s ≡ Put n a to limit w
       → (1 ≤ n) × (n ≤ to) × (to ≤ 23) × (a ≤ 15) × (1 ≤ limit) × (limit ≤ 512) × (w ≤ 16777215)

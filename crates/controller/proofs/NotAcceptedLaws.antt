@@ -3,13 +3,9 @@
 -- Assumes nothing.
 use Prim.Native.Nat.{ℕ, _≤_, _<_}
 use mathlib.Core.Path.{_≡_, refl, sym, ap, _∙_}
-use mathlib.Core.Bool.{Bool, true, false, false≢true, _||_}
-use mathlib.Core.Logic.{_⊎_, inl, inr}
 use mathlib.Core.List.{List}
 use native.Mathlib.Omega.{arith}
 use native.Mathlib.Decide.{decLt}
-use borrow.Author.Tests.{eqb-true}
-use lib.Dec.{eqb}
 use lib.ListN.{length}
 use Rattle.dataway.specs.Stations.{replyOf}
 use Rattle.transfer.specs.Cycle.{Ended}
@@ -18,8 +14,7 @@ use Rattle.transfer.specs.Stop.{stopOf}
 use Rattle.transfer.specs.Faults.{Aimed, registers, EndsThree}
 use Rattle.transfer.specs.declared.Transfer.{Transfer}
 use Rattle.transfer.proofs.FaultLaws.{accepted-below, repeat-ends-three, stop-ends-three}
-use Rattle.step.specs.Verdict.{transfer}
-use Rattle.step.proofs.Fine.{repeat-fields, stop-fields}
+use Rattle.step.proofs.Fine.{transfer-one-of, repeat-fields, stop-fields}
 use Rattle.step.specs.declared.Step.{Step}
 use Rattle.step.specs.declared.Step.the-variants.{Repeat, Stop}
 use Rattle.step.specs.declared.Reading.the-variants.{Good}
@@ -28,16 +23,6 @@ use Rattle.controller.specs.Steps.{order, Performed, transferred, actOf,
 use Rattle.controller.specs.NotAccepted.{NotAccepted, RepeatNotAccepted, StopNotAccepted}
 use Rattle.controller.proofs.Sentences.{isRefused}
 use Rattle.controller.proofs.FinishedLaws.{Did, step-did, did-answer, transferIn}
-
--- the functions of a block transfer are 0, 2 and 3
-one-of : (f : ℕ) → transfer f ≡ true → (f ≡ 0) ⊎ ((f ≡ 2) ⊎ (f ≡ 3))
-one-of f e = go (eqb f 0) (eqb f 2) (eqb f 3) (eqb-true f 0) (eqb-true f 2) (eqb-true f 3) e
-  where
-    go : (x y z : Bool) → (x ≡ true → f ≡ 0) → (y ≡ true → f ≡ 2) → (z ≡ true → f ≡ 3) → x || y || z ≡ true → (f ≡ 0) ⊎ ((f ≡ 2) ⊎ (f ≡ 3))
-    go true y z h i j t = inl (h refl)
-    go false true z h i j t = inr (inl (i refl))
-    go false false true h i j t = inr (inr (j refl))
-    go false false false h i j t = absurd (false≢true t)
 
 -- the step s came to e, of which the laws of a transfer aimed at N, A speak
 module _ (m : List ℕ) (n a f : ℕ) (s : Step) (b : List ℕ) (p : Transfer) (h : gives m (order (Good s) b) .answer ≡ Transferred p) where
@@ -62,7 +47,7 @@ repeat-not-accepted m n a f limit tries b p h =
     let s = Repeat n a f limit tries in
     let d = step-did m s b (ap isRefused h) in
     let q = repeat-fields n a f limit tries (length b) (d .fine) in
-    let aim : Aimed m n a f = record { fit = d .fit; first = q .0; last = q .1; subaddress = q .2; function = one-of f (q .3) } in
+    let aim : Aimed m n a f = record { fit = d .fit; first = q .0; last = q .1; subaddress = q .2; function = transfer-one-of f (q .3) } in
     as-aimed m n a f s b p h d (repeatOf m n a f limit tries) refl aim (repeat-ends-three m n a f limit tries aim (q .4) (q .6))
 
 pub stop-not-accepted : StopNotAccepted
@@ -70,5 +55,5 @@ stop-not-accepted m n a f limit b p h =
     let s = Stop n a f limit in
     let d = step-did m s b (ap isRefused h) in
     let q = stop-fields n a f limit (length b) (d .fine) in
-    let aim : Aimed m n a f = record { fit = d .fit; first = q .0; last = q .1; subaddress = q .2; function = one-of f (q .3) } in
+    let aim : Aimed m n a f = record { fit = d .fit; first = q .0; last = q .1; subaddress = q .2; function = transfer-one-of f (q .3) } in
     as-aimed m n a f s b p h d (stopOf m n a f limit) refl aim (stop-ends-three m n a f limit aim (q .4))

@@ -8,17 +8,19 @@ use native.Mathlib.Omega.{arith}
 use borrow.Rule.Slice.PartMut.{putMid, midOf}
 use lib.ListN.{length, replicate, set}
 use Rattle.blocks.specs.Blocks.{blockOf, withBlock, inhibitOf}
-use Rattle.blocks.proofs.Blocks.{length-block, set-put, part-block, part-back}
+use Rattle.blocks.proofs.Blocks.{length-block, block-same, set-put, part-block, part-back}
+use Rattle.acceptance.specs.declared.Span.{Span}
 use Rattle.station.specs.Kept.{Kept}
 use Rattle.station.specs.declared.Reply.{Reply}
 use Rattle.station.specs.Outcome.{Outcome}
 use Rattle.station.specs.Command.{commandOf}
 use Rattle.station.specs.Front.{Event, frontOf}
 use Rattle.station.specs.Control.{coveredBlock}
+use Rattle.station.proofs.AcceptedLaws.{accepts-same}
 use Rattle.station.proofs.CommandLaws.{command-kept}
 use Rattle.station.proofs.FrontLaws.{front-kept}
 use Rattle.dataway.specs.Crate.{FitCrate}
-use Rattle.dataway.specs.Stations.{replyOf, afterCommand, takenOf, afterFront}
+use Rattle.dataway.specs.Stations.{replyOf, afterCommand, AcceptsAt, takenOf, afterFront}
 use Rattle.dataway.proofs.CrateLaws.{fit-with}
 
 module _ (m : List ℕ) (n : ℕ) (h : FitCrate m) (lo : 1 ≤ n) (hi : n ≤ 23) where
@@ -29,6 +31,14 @@ module _ (m : List ℕ) (n : ℕ) (h : FitCrate m) (lo : 1 ≤ n) (hi : n ≤ 23
   pub command-fit : (a f w : ℕ) → a ≤ 15 → w ≤ 16777215 → FitCrate (afterCommand m n a f w)
   unfolding afterCommand
   command-fit a f w s l = fit-with m n (commandOf (blockOf m n) a f w .block) h lo hi (command-block a f w s l)
+
+  -- which keep the subaddresses that the station accepts, for every function
+  pub command-accepts : (a f w : ℕ) → a ≤ 15 → w ≤ 16777215 → (g : ℕ) (t : Span) → AcceptsAt m n g t → AcceptsAt (afterCommand m n a f w) n g t
+  unfolding afterCommand
+  command-accepts a f w s l g t e =
+      let c = commandOf (blockOf m n) a f w .block in
+      let k = command-block a f w s l in
+      rw (block-same m n c (h .size) (omega arith) (k .fit .long)) (accepts-same (blockOf m n) c g t (k .same) e)
 
   -- the block that a front event leaves, and the memory
   pub front-block : (a v : ℕ) → a ≤ 15 → v ≤ 16777215 → Kept (blockOf m n) (frontOf (inhibitOf m) (blockOf m n) a v .block)

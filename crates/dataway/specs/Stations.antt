@@ -7,6 +7,8 @@ use lib.ListN.{set}
 use lib.Dec.{eqb}
 use Rattle.blocks.specs.Blocks.{blockOf, withBlock, inhibitOf}
 use Rattle.kinds.specs.declared.Module.{Module}
+use Rattle.acceptance.specs.declared.Span.{Span}
+use Rattle.station.specs.Accepted.{Accepts}
 use Rattle.station.specs.Command.{commandOf}
 use Rattle.station.specs.Front.{frontOf}
 use Rattle.station.specs.Control.{moduleOf, coveredBlock}
@@ -19,6 +21,10 @@ replyOf m n a f w = commandOf (blockOf m n) a f w .reply
 -- and the memory that it leaves
 unfoldable pub afterCommand : List ℕ → (n a f w : ℕ) → List ℕ
 afterCommand m n a f w = withBlock m n (commandOf (blockOf m n) a f w .block)
+
+-- the span t has the subaddresses at which station N accepts F
+abbrev pub AcceptsAt : List ℕ → (n f : ℕ) → Span → Type 0
+AcceptsAt m n f t = Accepts (blockOf m n) f t
 
 -- a front event at station N, under the crate's Inhibit: its digit (station/specs/Front)
 unfoldable pub takenOf : List ℕ → (n a v : ℕ) → ℕ

@@ -5,10 +5,12 @@ ghost use Prim.Native.Nat.{_≤_};
 ghost use lib.ListN.{length};
 ghost use Rattle.blocks.specs.Blocks.{word, withBlock};
 ghost use Rattle.kinds.specs.Table.{FitModule};
+ghost use Rattle.station.specs.Accepted.{ReadFunction};
 ghost use Rattle.station.specs.Control.{moduleOf, coveredBlock};
 ghost use Rattle.dataway.specs.Crate.{FitCrate};
 ghost use Rattle.dataway.specs.Addressed.{Commanded, sentOf};
-ghost use Rattle.dataway.specs.Stations.{replyOf, afterCommand, takenOf, afterFront, occupiedBy, uncovered, withModule};
+ghost use Rattle.dataway.specs.Stations.{replyOf, afterCommand, AcceptsAt, takenOf, afterFront, occupiedBy, uncovered, withModule};
+use acceptance::Span;
 use address::ALL_STATIONS;
 use address::command_many;
 use address::common;
@@ -68,16 +70,28 @@ pub fn send(memory: &mut [u32], n: u32, a: u32, f: u32, w: u32) -> Reply
     }
 }
 
-// One cycle of a block transfer at station n.
-pub fn cycle(memory: &mut [u32], n: u32, a: u32, f: u32) -> Reply
+// The subaddresses at which station n accepts function f.
+pub fn accepted(memory: &[u32], n: u32, f: u32) -> Span
     requires { ⌜ FitCrate (now memory) ⌝ }
-    requires { ⌜ (1 ≤ n) × (n ≤ 23) × (a ≤ 15) × (f ≤ 31) ⌝ }
+    requires { ⌜ (1 ≤ n) × (n ≤ 23) × (f ≤ 31) ⌝ }
+    ensures { λ t. ⌜ AcceptsAt (now (memory .entry)) n f t ⌝ }
+{
+    let from = BLOCK_WORDS * n as usize;
+    let to = from + BLOCK_WORDS;
+    station::accepted(&memory[from..to], f)
+}
+
+// One cycle of a block transfer at station n, which was asked before which subaddresses it accepts.
+pub fn cycle(memory: &mut [u32], span: Span, n: u32, a: u32, f: u32) -> Reply
+    requires { ⌜ FitCrate (now memory) ⌝ }
+    requires { ⌜ AcceptsAt (now memory) n f span ⌝ }
+    requires { ⌜ (1 ≤ n) × (n ≤ 23) × (a ≤ 15) × ReadFunction f ⌝ }
     ensures answer { λ r. ⌜ r ≡ replyOf (now (memory .entry)) n a f 0 ⌝ }
     ensures memory { λ _. ⌜ now (memory .exit) ≡ afterCommand (now (memory .entry)) n a f 0 ⌝ }
 {
     let from = BLOCK_WORDS * n as usize;
     let to = from + BLOCK_WORDS;
-    station::cycle(&mut memory[from..to], a, f)
+    station::cycle(&mut memory[from..to], span, a, f)
 }
 
 // One front event at station n: 0 not taken, 1 taken, 2 taken and a status bit went from 0 to 1, 3 the word was lost in a full buffer memory.

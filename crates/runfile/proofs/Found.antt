@@ -6,7 +6,7 @@ use mathlib.Core.List.{List}
 use lib.ListN.{drop}
 use Rattle.step.specs.declared.Reading.{Reading}
 use Rattle.runfile.specs.Places.{asTaken, asHeads}
-use Rattle.runfile.specs.Read.{Taken, taken, absent, Heads, heads, headless, orElse}
+use Rattle.runfile.specs.Read.{Taken, taken, absent, Heads, heads, headless, readField, headAfter, headOf, orElse}
 use Rattle.runfile.specs.declared.fields.Head.{Head}
 use Rattle.runfile.specs.declared.fields.Head.the-variants.{Fields, NoHead}
 use Rattle.runfile.specs.declared.fields.Number.{Number}
@@ -24,6 +24,12 @@ was-heads line r e q = sym e ∙ ap (asHeads line) q
 
 pub was-headless : (line : List ℕ) (r : Head) {t : Heads} → asHeads line r ≡ t → r ≡ NoHead → t ≡ headless
 was-headless line r e q = sym e ∙ ap (asHeads line) q
+
+-- the head of a line whose first field was read with a key
+pub headed : (line : List ℕ) (first : Number) (r : Head) (key : List ℕ) → asTaken line first ≡ readField key line
+    → asHeads line r ≡ headAfter (asTaken line first) → asHeads line r ≡ headOf key line
+unfolding headOf
+headed line first r key e h = h ∙ ap headAfter e
 
 -- the reading that `or_else` gives of two
 pub either : {a a′ b b′ r : Reading} → a ≡ a′ → b ≡ b′ → r ≡ orElse a b → r ≡ orElse a′ b′

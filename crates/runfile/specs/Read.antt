@@ -81,13 +81,17 @@ abbrev pub thenHeads : Taken → (ℕ → List ℕ → Heads) → Heads
 thenHeads (taken v l) k = k v l
 thenHeads absent k = headless
 
--- the fields n, a and f, after a keyword that ends with `n=`
-unfoldable pub headOf : List ℕ → List ℕ → Heads
-headOf key l =
-    thenHeads (readField key l) λ n l1.
+-- the fields a and f behind the field n, if that is there
+abbrev pub headAfter : Taken → Heads
+headAfter first =
+    thenHeads first λ n l1.
     thenHeads (readField (bytes " a=") l1) λ a l2.
     thenHeads (readField (bytes " f=") l2) λ f l3.
     heads n a f l3
+
+-- the fields n, a and f, after a keyword that ends with `n=`
+unfoldable pub headOf : List ℕ → List ℕ → Heads
+headOf key l = headAfter (readField key l)
 
 -- what follows the head, if it is there
 abbrev pub withHead : Heads → (ℕ → ℕ → ℕ → List ℕ → Reading) → Reading

@@ -14,7 +14,7 @@ ghost use Rattle.runfile.specs.Read.{nafLine, frontLine, inhibitLine};
 pub fn read_naf(line: &[u8]) -> Reading
     ensures { λ r. ⌜ r ≡ nafLine (now (line .entry)) ⌝ }
 {
-    let Head::Fields { n, a, f, next } = head_of(line, b"op=naf n=") else {
+    let Head::Fields { n, a, f, next } = head_of(line, field_at(line, 0, b"op=naf n=")) else {
         return Reading::Bad(Refusal::Garbled);
     };
     let Number::Value {

@@ -6,7 +6,7 @@ ghost use mathlib.Core.Path.{_≡_};
 ghost use Prim.Native.Nat.{_<_};
 ghost use lib.ListN.{drop};
 ghost use Rattle.runfile.specs.Places.{asTaken, asHeads};
-ghost use Rattle.runfile.specs.Read.{digit, open-ended, digitsFrom, number, readField, ended, headOf};
+ghost use Rattle.runfile.specs.Read.{digit, open-ended, digitsFrom, number, readField, ended, headAfter};
 
 // A number read at a place of a line, and the place after it; or none there.
 pub enum Number {
@@ -96,14 +96,14 @@ pub fn field_at(line: &[u8], at: usize, key: &[u8]) -> Number
     number_at(line, i)
 }
 
-// The fields n, a and f of a line that begins with key.
-pub fn head_of(line: &[u8], key: &[u8]) -> Head
-    ensures { λ r. ⌜ asHeads (now (line .entry)) r ≡ headOf (now (key .entry)) (now (line .entry)) ⌝ }
+// The fields n, a and f of a line, given the first.
+pub fn head_of(line: &[u8], first: Number) -> Head
+    ensures { λ r. ⌜ asHeads (now (line .entry)) r ≡ headAfter (asTaken (now (line .entry)) first) ⌝ }
 {
     let Number::Value {
         value: n,
         next: after_n,
-    } = field_at(line, 0, key)
+    } = first
     else {
         return Head::NoHead;
     };

@@ -14,7 +14,7 @@ ghost use Rattle.runfile.specs.Read.{scanLine, repeatLine, stopLine, put
 pub fn read_scan(line: &[u8]) -> Reading
     ensures { λ r. ⌜ r ≡ scanLine (now (line .entry)) ⌝ }
 {
-    let Head::Fields { n, a, f, next } = head_of(line, b"op=scan n=") else {
+    let Head::Fields { n, a, f, next } = head_of(line, field_at(line, 0, b"op=scan n=")) else {
         return Reading::Bad(Refusal::Garbled);
     };
     let Number::Value {
@@ -48,7 +48,7 @@ pub fn read_scan(line: &[u8]) -> Reading
 pub fn read_repeat(line: &[u8]) -> Reading
     ensures { λ r. ⌜ r ≡ repeatLine (now (line .entry)) ⌝ }
 {
-    let Head::Fields { n, a, f, next } = head_of(line, b"op=repeat n=") else {
+    let Head::Fields { n, a, f, next } = head_of(line, field_at(line, 0, b"op=repeat n=")) else {
         return Reading::Bad(Refusal::Garbled);
     };
     let Number::Value {
@@ -82,7 +82,7 @@ pub fn read_repeat(line: &[u8]) -> Reading
 pub fn read_stop(line: &[u8]) -> Reading
     ensures { λ r. ⌜ r ≡ stopLine (now (line .entry)) ⌝ }
 {
-    let Head::Fields { n, a, f, next } = head_of(line, b"op=stop n=") else {
+    let Head::Fields { n, a, f, next } = head_of(line, field_at(line, 0, b"op=stop n=")) else {
         return Reading::Bad(Refusal::Garbled);
     };
     let Number::Value {

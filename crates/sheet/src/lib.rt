@@ -1,8 +1,10 @@
 // The lines of one step, and of a crate line that is refused, put into a lent buffer. Each call says what all of the buffer holds after it.
 ghost use mathlib.Core.Path.{_≡_};
+ghost use mathlib.Core.List.{_++_};
 ghost use Prim.Native.Nat.{_+_, _*_, _≤_};
 ghost use lib.ListN.{length, take};
 ghost use Rattle.text.specs.Paste.{Put};
+ghost use Rattle.text.specs.Text.{bytes, decimal};
 ghost use Rattle.controller.specs.declared.Answer.{Answer};
 ghost use Rattle.sheet.specs.Answers.{body, stepLine, wordLine, wordLines, stored, stepText, crateText};
 use controller::Answer;
@@ -64,12 +66,22 @@ fn put_body(out: &mut [u8], at: usize, answer: Answer) -> usize
     }
 }
 
+// Puts the number of step k: behind the five bytes of its key, then the key.
+fn put_number(out: &mut [u8], at: usize, k: u32) -> usize
+    requires { ⌜ at + 15 ≤ length (now out) ⌝ }
+    ensures { λ r. ⌜ Put (now (out .entry)) at (bytes "step=" ++ decimal k) (now (out .exit)) r ⌝ }
+{
+    let next = put_behind(out, at, 5, k);
+    put_bytes(out, at, b"step=");
+    next
+}
+
 // Puts the line of step k.
 fn put_line(out: &mut [u8], at: usize, k: u32, answer: Answer) -> usize
     requires { ⌜ at + 66 ≤ length (now out) ⌝ }
     ensures { λ r. ⌜ Put (now (out .entry)) at (stepLine k answer) (now (out .exit)) r ⌝ }
 {
-    let next = put_field(out, at, b"step=", k);
+    let next = put_number(out, at, k);
     let last = put_body(out, next, answer);
     put_bytes(out, last, b"\n")
 }

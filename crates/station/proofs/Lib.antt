@@ -7,4 +7,5 @@ pub mod ControlLaws
 pub mod AnswerLaws
 pub mod HeldLaws
 pub mod ClassLaws
+pub mod AcceptedLaws
 pub mod EmptyLaws

@@ -11,3 +11,4 @@ pub mod Kept
 pub mod Answered
 pub mod Held
 pub mod Digit
+pub mod Accepted

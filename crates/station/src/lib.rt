@@ -2,6 +2,7 @@
 ghost use mathlib.Core.Path.{_≡_};
 ghost use Prim.Native.Nat.{_<_, _^_};
 ghost use Rattle.acceptance.specs.Classes.{classOf, admits};
+ghost use Rattle.station.specs.Accepted.{Accepts, ReadFunction};
 ghost use Rattle.station.specs.Block.{FitBlock, kindOf, countOf, sourcesOf};
 ghost use Rattle.station.specs.Outcome.{Outcome};
 ghost use Rattle.station.specs.Command.{commandOf};
@@ -12,11 +13,16 @@ pub mod group1;
 pub mod group2;
 pub mod lam;
 
-use acceptance::admits;
+use acceptance::Span;
 use acceptance::class_of;
+use acceptance::has;
+use acceptance::span_of;
 use block::COUNT;
 use block::KIND;
 use block::sources;
+use group1::read;
+use group1::read_and_clear;
+use group1::read_complement;
 
 // The answer to a command: Command Accepted, Response and read word.
 pub struct Reply {
@@ -31,13 +37,21 @@ pub const NOT_ACCEPTED: Reply = Reply { x: 0, q: 0, r: 0 };
 // Accepted, with nothing to read.
 pub const DONE: Reply = Reply { x: 1, q: 1, r: 0 };
 
-// Whether the station accepts a command: the class of its kind at function f has subaddress a. `command` asks it, and no other function decides it.
+// The subaddresses at which the station accepts function f: those of the class of its kind. No other function decides it.
+pub fn accepted(b: &[u32], f: u32) -> Span
+    requires { ⌜ FitBlock (now b) ⌝ ∗ ⌜ f < 32 ⌝ }
+    ensures { λ t. ⌜ Accepts (now (b .entry)) f t ⌝ }
+{
+    let class = class_of(b[KIND], f);
+    span_of(class, b[COUNT], sources(b))
+}
+
+// Whether the station accepts a command.
 fn accepts(b: &[u32], a: u32, f: u32) -> bool
     requires { ⌜ FitBlock (now b) ⌝ ∗ ⌜ f < 32 ⌝ }
     ensures { λ t. ⌜ t ≡ admits (classOf (kindOf (now (b .entry))) f) a (countOf (now (b .entry))) (sourcesOf (now (b .entry))) ⌝ }
 {
-    let class = class_of(b[KIND], f);
-    admits(class, a, b[COUNT], sources(b))
+    has(accepted(b, f), a)
 }
 
 // One command to the station: subaddress a, function f, write word w.
@@ -72,10 +86,17 @@ pub fn command(b: &mut [u32], a: u32, f: u32, w: u32) -> Reply
     }
 }
 
-// One cycle of a block transfer: a command with no word to write.
-pub fn cycle(b: &mut [u32], a: u32, f: u32) -> Reply
-    requires { ⌜ FitBlock (now b) ⌝ ∗ ⌜ a < 16 ⌝ ∗ ⌜ f < 32 ⌝ }
+// One cycle of a block transfer: a command with no word to write, at a station that was asked before which subaddresses it accepts.
+pub fn cycle(b: &mut [u32], span: Span, a: u32, f: u32) -> Reply
+    requires { ⌜ FitBlock (now b) ⌝ ∗ ⌜ Accepts (now b) f span ⌝ ∗ ⌜ a < 16 ⌝ ∗ ⌜ ReadFunction f ⌝ }
     ensures { λ r. ⌜ commandOf (now (b .entry)) a f 0 ≡ record { block = now (b .exit); reply = r } ⌝ }
 {
-    command(b, a, f, 0)
+    if !has(span, a) {
+        return NOT_ACCEPTED;
+    }
+    match f {
+        0 => read(b, a),
+        2 => read_and_clear(b, a),
+        _ => read_complement(b, a),
+    }
 }

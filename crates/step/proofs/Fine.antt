@@ -1,6 +1,7 @@
 -- What a fine verdict says of a step's fields: each test of the list was passed, so each field is within its bounds.
 use mathlib.Core.Path.{_≡_, refl}
 use mathlib.Core.Bool.{Bool, true, false, false≢true, cond, _&&_, _||_, and-eq-true-iff}
+use mathlib.Core.Logic.{_⊎_, inl, inr}
 use mathlib.Core.List.{List, [], _∷_}
 use Prim.Native.Nat.{ℕ, zero, suc, _≤_}
 use native.Mathlib.Omega.{arith}
@@ -27,14 +28,14 @@ within-bounds low x high e =
     let p = and-eq-true-iff (leb low x) (leb x high) .0 e in
     (leb-true low x (p .0), leb-true x high (p .1))
 
--- the functions of a transfer are among the 32
-pub transfer-bound : (f : ℕ) → transfer f ≡ true → f ≤ 3
-transfer-bound f e = go (eqb f 0) (eqb f 2) (eqb f 3) (eqb-true f 0) (eqb-true f 2) (eqb-true f 3) e
+-- the functions of a transfer are 0, 2 and 3
+pub transfer-one-of : (f : ℕ) → transfer f ≡ true → (f ≡ 0) ⊎ ((f ≡ 2) ⊎ (f ≡ 3))
+transfer-one-of f e = go (eqb f 0) (eqb f 2) (eqb f 3) (eqb-true f 0) (eqb-true f 2) (eqb-true f 3) e
   where
-    go : (s t u : Bool) → (s ≡ true → f ≡ 0) → (t ≡ true → f ≡ 2) → (u ≡ true → f ≡ 3) → (s || t || u) ≡ true → f ≤ 3
-    go true t u p q r e = omega (arith, p refl)
-    go false true u p q r e = omega (arith, q refl)
-    go false false true p q r e = omega (arith, r refl)
+    go : (s t u : Bool) → (s ≡ true → f ≡ 0) → (t ≡ true → f ≡ 2) → (u ≡ true → f ≡ 3) → (s || t || u) ≡ true → (f ≡ 0) ⊎ ((f ≡ 2) ⊎ (f ≡ 3))
+    go true t u p q r e = inl (p refl)
+    go false true u p q r e = inr (inl (q refl))
+    go false false true p q r e = inr (inr (r refl))
     go false false false p q r e = absurd (false≢true e)
 
 -- a row with an upper bound

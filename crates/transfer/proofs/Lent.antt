@@ -8,10 +8,11 @@ use native.Mathlib.Omega.{arith}
 use native.Mathlib.Numerals.{add-one}
 use lib.ListN.{length, drop, take, set, length-set, take-append-drop}
 use lib.Seq.{take-suc-set, length-take-le, drop-set-lt}
+use Rattle.acceptance.specs.declared.Span.{Span}
 use Rattle.station.specs.declared.Reply.{Reply}
 use Rattle.dataway.specs.Crate.{FitCrate}
-use Rattle.dataway.specs.Stations.{replyOf, afterCommand}
-use Rattle.dataway.proofs.StationLaws.{command-fit}
+use Rattle.dataway.specs.Stations.{replyOf, afterCommand, AcceptsAt}
+use Rattle.dataway.proofs.StationLaws.{command-fit, command-accepts}
 use Rattle.transfer.specs.declared.Transfer.{Transfer}
 use Rattle.transfer.specs.Cycle.{Ended, ended, transferOf, bufferAfter, store}
 
@@ -51,6 +52,10 @@ made p q lo hi low = record { answer = p; memory = q; from = lo; station = hi; l
 module _ {m₀ buf₀ m buf m′ : List ℕ} {words n a f : ℕ} {reply : Reply} (h : Lent m₀ buf₀ m buf words) (d : Made m n a f reply m′) where
   after-fit : FitCrate m′
   after-fit = rw (d .memory) (command-fit m n (h .fit) (d .from) (d .station) a f 0 (d .low) (omega arith))
+
+  -- and its station accepts F where it did
+  pub still-accepts : (t : Span) → AcceptsAt m n f t → AcceptsAt m′ n f t
+  still-accepts t s = rw (d .memory) (command-accepts m n (h .fit) (d .from) (d .station) a f 0 (d .low) (omega arith) f t s)
 
   -- the command's word is not stored
   pub lent-kept : Lent m₀ buf₀ m′ buf words

@@ -2,6 +2,7 @@
 ghost use mathlib.Core.Path.{_≡_};
 ghost use Prim.Native.Nat.{_≤_};
 ghost use lib.ListN.{length};
+ghost use Rattle.station.specs.Accepted.{ReadFunction};
 ghost use Rattle.dataway.specs.Crate.{FitCrate};
 ghost use Rattle.transfer.specs.Cycle.{transferOf, bufferAfter};
 ghost use Rattle.transfer.specs.Repeat.{repeatOf};
@@ -21,15 +22,16 @@ pub fn repeat(
     tries: u32,
 ) -> Transfer
     requires { ⌜ FitCrate (now memory) ⌝ }
-    requires { ⌜ (1 ≤ n) × (n ≤ 23) × (a ≤ 15) × (f ≤ 31) × (1 ≤ limit) × (limit ≤ 512) × (limit ≤ length (now buffer)) × (tries ≤ 4096) ⌝ }
+    requires { ⌜ (1 ≤ n) × (n ≤ 23) × (a ≤ 15) × ReadFunction f × (1 ≤ limit) × (limit ≤ 512) × (limit ≤ length (now buffer)) × (tries ≤ 4096) ⌝ }
     ensures answer { λ r. ⌜ r ≡ transferOf (repeatOf (now (memory .entry)) n a f limit tries) ⌝ }
     ensures memory { λ _. ⌜ now (memory .exit) ≡ repeatOf (now (memory .entry)) n a f limit tries .memory ⌝ }
     ensures buffer { λ _. ⌜ now (buffer .exit) ≡ bufferAfter (repeatOf (now (memory .entry)) n a f limit tries) (now (buffer .entry)) ⌝ }
 {
+    let span = dataway::accepted(memory, n, f);
     let mut words: u32 = 0;
     let mut cycles: u32 = 0;
     while cycles < tries {
-        let reply = dataway::cycle(memory, n, a, f);
+        let reply = dataway::cycle(memory, span, n, a, f);
         cycles += 1;
         if reply.x != 1 {
             return Transfer {

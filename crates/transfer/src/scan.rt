@@ -2,6 +2,7 @@
 ghost use mathlib.Core.Path.{_≡_};
 ghost use Prim.Native.Nat.{_≤_};
 ghost use lib.ListN.{length};
+ghost use Rattle.station.specs.Accepted.{ReadFunction};
 ghost use Rattle.dataway.specs.Crate.{FitCrate};
 ghost use Rattle.transfer.specs.Cycle.{transferOf, bufferAfter};
 ghost use Rattle.transfer.specs.Scan.{scanOf};
@@ -21,7 +22,7 @@ pub fn scan(
     limit: u32,
 ) -> Transfer
     requires { ⌜ FitCrate (now memory) ⌝ }
-    requires { ⌜ (1 ≤ n) × (n ≤ to) × (to ≤ 23) × (a ≤ 15) × (f ≤ 31) × (1 ≤ limit) × (limit ≤ 512) × (limit ≤ length (now buffer)) ⌝ }
+    requires { ⌜ (1 ≤ n) × (n ≤ to) × (to ≤ 23) × (a ≤ 15) × ReadFunction f × (1 ≤ limit) × (limit ≤ 512) × (limit ≤ length (now buffer)) ⌝ }
     ensures answer { λ r. ⌜ r ≡ transferOf (scanOf (now (memory .entry)) n a f to limit) ⌝ }
     ensures memory { λ _. ⌜ now (memory .exit) ≡ scanOf (now (memory .entry)) n a f to limit .memory ⌝ }
     ensures buffer { λ _. ⌜ now (buffer .exit) ≡ bufferAfter (scanOf (now (memory .entry)) n a f to limit) (now (buffer .entry)) ⌝ }
@@ -32,8 +33,9 @@ pub fn scan(
     let mut station = n;
     let mut subaddress = a;
     'stations: while station <= to {
+        let span = dataway::accepted(memory, station, f);
         loop {
-            let reply = dataway::cycle(memory, station, subaddress, f);
+            let reply = dataway::cycle(memory, span, station, subaddress, f);
             cycles += 1;
             if reply.q != 1 {
                 break;

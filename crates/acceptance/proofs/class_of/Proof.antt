@@ -4,9 +4,6 @@ use Rattle.acceptance.proofs.Entries.{class-named, class-else}
 use Rattle.acceptance.proofs.class_of.Statement.{statement}
 use Rattle.acceptance.proofs.class_of.Tie as tie
 
-digit-requires : tie.Need-digit-requires
-digit-requires c κs = search needs
-
 returns : tie.Need-returns
 returns c = class-named _ _ 49 (c .before .digit .ensures) (c .match .keys1)
 
@@ -31,4 +28,4 @@ returns-7 c = class-else _ _ (c .before .digit .ensures) (c .match .rest)
 pub class-of-spec : {M : Type 1} → statement M
 class-of-spec =
     tie.close
-    (tie.spec digit-requires returns returns-2 returns-3 returns-4 returns-5 returns-6 returns-7)
+    (tie.spec (λ c κs. search needs) returns returns-2 returns-3 returns-4 returns-5 returns-6 returns-7)

@@ -6,54 +6,6 @@ use Rattle.acceptance.specs.Classes.{classOf}
 use Rattle.acceptance.proofs.digit.Statement.{statement}
 use Rattle.acceptance.proofs.digit.Tie as tie
 
-cast-i : tie.Need-cast-i
-cast-i c = search needs
-
-array-read-result : tie.Need-array-read-result
-array-read-result c = search needs
-
-add-result : tie.Need-add-result
-add-result c = search needs
-
-array-read-result-2 : tie.Need-array-read-result-2
-array-read-result-2 c = search needs
-
-mul-result : tie.Need-mul-result
-mul-result c = search needs
-
-add-result-2 : tie.Need-add-result-2
-add-result-2 c = search needs
-
-array-read-result-3 : tie.Need-array-read-result-3
-array-read-result-3 c = search needs
-
-mul-result-2 : tie.Need-mul-result-2
-mul-result-2 c = search needs
-
-add-result-3 : tie.Need-add-result-3
-add-result-3 c = search needs
-
-array-read-result-4 : tie.Need-array-read-result-4
-array-read-result-4 c = search needs
-
-mul-result-3 : tie.Need-mul-result-3
-mul-result-3 c = search needs
-
-add-result-4 : tie.Need-add-result-4
-add-result-4 c = search needs
-
-array-read-result-5 : tie.Need-array-read-result-5
-array-read-result-5 c = search needs
-
-mul-result-4 : tie.Need-mul-result-4
-mul-result-4 c = search needs
-
-add-result-5 : tie.Need-add-result-5
-add-result-5 c = search needs
-
-array-read-result-6 : tie.Need-array-read-result-6
-array-read-result-6 c = search needs
-
 returns : tie.Need-returns
 unfolding classOf
 returns c = digit-first _ _ (c .match .keys1) (c .before .pre .1)
@@ -82,22 +34,9 @@ pub digit-spec : {M : Type 1} → statement M
 digit-spec =
     tie.close
     (tie.spec
-    cast-i
-    array-read-result
-    add-result
-    array-read-result-2
-    mul-result
-    add-result-2
-    array-read-result-3
-    mul-result-2
-    add-result-3
-    array-read-result-4
-    mul-result-3
-    add-result-4
-    array-read-result-5
-    mul-result-4
-    add-result-5
-    array-read-result-6
+    (λ c. search needs) (λ c. search needs) (λ c. search needs) (λ c. search needs) (λ c. search needs) (λ c. search needs) (λ c. search needs)
+    (λ c. search needs) (λ c. search needs) (λ c. search needs) (λ c. search needs) (λ c. search needs) (λ c. search needs) (λ c. search needs)
+    (λ c. search needs) (λ c. search needs)
     returns
     returns-2
     returns-3

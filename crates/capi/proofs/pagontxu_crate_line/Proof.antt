@@ -4,18 +4,9 @@ use Rattle.capi.proofs.CallLaws.{crate-told}
 use Rattle.capi.proofs.pagontxu_crate_line.Statement.{statement}
 use Rattle.capi.proofs.pagontxu_crate_line.Tie as tie
 
-crate-line-requires : tie.Need-crate-line-requires
-crate-line-requires c κs = search needs
-
-verdict-number-requires : tie.Need-verdict-number-requires
-verdict-number-requires c κs = search needs
-
-same-length : tie.Need-same-length
-same-length c = search needs
-
 returns : tie.Need-returns
 returns c = crate-told _ _ _ _ _ _ (c .before .before .before .crate-line .ensures .0) (c .verdict-number .ensures)
 
 pub pagontxu-crate-line-spec : {M : Type 1} → statement M
 pagontxu-crate-line-spec =
-    tie.close (tie.spec crate-line-requires verdict-number-requires same-length returns)
+    tie.close (tie.spec (λ c κs. search needs) (λ c κs. search needs) (λ c. search needs) returns)

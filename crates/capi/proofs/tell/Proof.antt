@@ -7,24 +7,6 @@ use lib.ListN.{drop}
 use Rattle.capi.proofs.tell.Statement.{statement}
 use Rattle.capi.proofs.tell.Tie as tie
 
-sub-write-answer : tie.Need-sub-write-answer
-sub-write-answer c = search needs
-
-part-write-answer-start : tie.Need-part-write-answer-start
-part-write-answer-start c = search needs
-
-part-write-answer-end : tie.Need-part-write-answer-end
-part-write-answer-end c = search needs
-
-write-answer-requires : tie.Need-write-answer-requires
-write-answer-requires c κs = search needs
-
-answer-number-requires : tie.Need-answer-number-requires
-answer-number-requires c κs = search needs
-
-same-length : tie.Need-same-length
-same-length c = search needs
-
 returns : tie.Need-returns
 returns c = (
   (c .answer-number .ensures),
@@ -36,10 +18,5 @@ pub tell-spec : {M : Type 1} → statement M
 tell-spec =
     tie.close
     (tie.spec
-    sub-write-answer
-    part-write-answer-start
-    part-write-answer-end
-    write-answer-requires
-    answer-number-requires
-    same-length
+    (λ c. search needs) (λ c. search needs) (λ c. search needs) (λ c κs. search needs) (λ c κs. search needs) (λ c. search needs)
     returns)

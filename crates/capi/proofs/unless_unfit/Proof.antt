@@ -5,9 +5,6 @@ use Rattle.capi.proofs.CallLaws.{unless-fit, unless-not}
 use Rattle.capi.proofs.unless_unfit.Statement.{statement}
 use Rattle.capi.proofs.unless_unfit.Tie as tie
 
-is-fit-crate-requires : tie.Need-is-fit-crate-requires
-is-fit-crate-requires c κs = search needs
-
 returns : tie.Need-returns
 returns c = unless-fit _ _ (sym (c .before .is-fit-crate .ensures) ∙ (c .if1 .taken))
 
@@ -15,4 +12,4 @@ returns-2 : tie.Need-returns-2
 returns-2 c = unless-not _ _ (sym (c .before .is-fit-crate .ensures) ∙ (c .if1 .left))
 
 pub unless-unfit-spec : {M : Type 1} → statement M
-unless-unfit-spec = tie.close (tie.spec is-fit-crate-requires returns returns-2)
+unless-unfit-spec = tie.close (tie.spec (λ c κs. search needs) returns returns-2)

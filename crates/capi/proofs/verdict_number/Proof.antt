@@ -5,15 +5,6 @@ use Rattle.step.specs.Refusals.{verdictNumber}
 use Rattle.capi.proofs.verdict_number.Statement.{statement}
 use Rattle.capi.proofs.verdict_number.Tie as tie
 
-enum-told : tie.Need-enum-told
-enum-told c = search needs
-
-enum-known-verdict : tie.Need-enum-known-verdict
-enum-known-verdict c = search needs
-
-refusal-number-requires : tie.Need-refusal-number-requires
-refusal-number-requires c κs = search needs
-
 returns : tie.Need-returns
 returns c = ap verdictNumber (sym (c .enum-told .given .1))
 
@@ -24,8 +15,6 @@ pub verdict-number-spec : {M : Type 1} → statement M
 verdict-number-spec =
     tie.close
     (tie.spec
-    enum-told
-    enum-known-verdict
-    refusal-number-requires
+    (λ c. search needs) (λ c. search needs) (λ c κs. search needs)
     returns
     returns-2)

@@ -6,15 +6,6 @@ use Rattle.text.proofs.Paste.{put-within}
 use Rattle.classes.proofs.main.Statement.{statement}
 use Rattle.classes.proofs.main.Tie as tie
 
-buffer-requires : tie.Need-buffer-requires
-buffer-requires c κs = search needs
-
-slice-aggregate-put-table : tie.Need-slice-aggregate-put-table
-slice-aggregate-put-table c = search needs
-
-put-table-requires : tie.Need-put-table-requires
-put-table-requires c κs = search needs
-
 array-share-prefix-out : tie.Need-array-share-prefix-out
 array-share-prefix-out c = put-within (c .before .put-table .ensures)
 
@@ -23,20 +14,11 @@ slice-aggregate-write-all c =
     let put = c .before .before .put-table in
     sym (length-take-le (put .result) (put .last .0) (put-within (put .ensures)))
 
-write-all-requires : tie.Need-write-all-requires
-write-all-requires c κs = search needs
-
-returns : tie.Need-returns
-returns c = search needs
-
 pub main-spec : {M : Type 1} → statement M
 main-spec =
     tie.close
     (tie.spec
-    buffer-requires
-    slice-aggregate-put-table
-    put-table-requires
+    (λ c κs. search needs) (λ c. search needs) (λ c κs. search needs)
     array-share-prefix-out
     slice-aggregate-write-all
-    write-all-requires
-    returns)
+    (λ c κs. search needs) (λ c. search needs))

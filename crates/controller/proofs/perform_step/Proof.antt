@@ -6,33 +6,15 @@ use Rattle.step.specs.Verdict.{isFine}
 use Rattle.controller.proofs.perform_step.Statement.{statement}
 use Rattle.controller.proofs.perform_step.Tie as tie
 
-judge-requires : tie.Need-judge-requires
-judge-requires c κs = search needs
-
-enum-known-verdict : tie.Need-enum-known-verdict
-enum-known-verdict c = search needs
-
-enum-told : tie.Need-enum-told
-enum-told c = search needs
-
 act-requires : tie.Need-act-requires
 act-requires c κs = (
   (c .before .before .before .before .before .before .before .before .pre),
   ap isFine (sym (c .before .before .before .before .judge .ensures) ∙ (c .before .before .enum-told .given .1)),
 )
 
-same-length : tie.Need-same-length
-same-length c = search needs
-
 returns : tie.Need-returns
 returns c = refused-done _ _ (c .before .before .before .before .before .before .before .pre) _ _ _
     (c .before .before .before .judge .ensures) (c .before .verdict .given .1)
-
-same-length-2 : tie.Need-same-length-2
-same-length-2 c = search needs
-
-same-length-3 : tie.Need-same-length-3
-same-length-3 c = search needs
 
 returns-2 : tie.Need-returns-2
 returns-2 c = acted-done _ _
@@ -44,12 +26,9 @@ pub perform-step-spec : {M : Type 1} → statement M
 perform-step-spec =
     tie.close
     (tie.spec
-    judge-requires
-    enum-known-verdict
-    enum-told
+    (λ c κs. search needs) (λ c. search needs) (λ c. search needs)
     act-requires
-    same-length
+    (λ c. search needs)
     returns
-    same-length-2
-    same-length-3
+    (λ c. search needs) (λ c. search needs)
     returns-2)

@@ -6,33 +6,12 @@ use Rattle.blocks.proofs.Blocks.{part-block}
 use Rattle.dataway.proofs.command.Statement.{statement}
 use Rattle.dataway.proofs.command.Tie as tie
 
-mul-from : tie.Need-mul-from
-mul-from c = search needs
-
-add-to : tie.Need-add-to
-add-to c = search needs
-
-mul-command : tie.Need-mul-command
-mul-command c = search needs
-
-sub-command : tie.Need-sub-command
-sub-command c = search needs
-
-part-command-start : tie.Need-part-command-start
-part-command-start c = search needs
-
-part-command-end : tie.Need-part-command-end
-part-command-end c = search needs
-
 command-requires : tie.Need-command-requires
 command-requires c κs = (
   rw (part-block (c .before .before .args .memory .now) (c .before .before .args .n))
       ((c .before .before .pre .0 .station) (c .before .before .args .n) (c .before .before .pre .1 .0) (c .before .before .pre .1 .1)),
   (omega arith, (omega arith, omega arith)),
 )
-
-same-length : tie.Need-same-length
-same-length c = search needs
 
 returns : tie.Need-returns
 returns c = command-lent (c .before .before .before .before .before .args .memory .now)
@@ -44,12 +23,7 @@ pub command-spec : {M : Type 1} → statement M
 command-spec =
     tie.close
     (tie.spec
-    mul-from
-    add-to
-    mul-command
-    sub-command
-    part-command-start
-    part-command-end
+    (λ c. search needs) (λ c. search needs) (λ c. search needs) (λ c. search needs) (λ c. search needs) (λ c. search needs)
     command-requires
-    same-length
+    (λ c. search needs)
     returns)

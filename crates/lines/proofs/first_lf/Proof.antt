@@ -5,18 +5,6 @@ use borrow.Author.Needs.{needs}
 use Rattle.lines.proofs.first_lf.Statement.{statement}
 use Rattle.lines.proofs.first_lf.Tie as tie
 
-half-requires : tie.Need-half-requires
-half-requires c κs = search needs
-
-half-requires-2 : tie.Need-half-requires-2
-half-requires-2 c κs = search needs
-
-half-requires-3 : tie.Need-half-requires-3
-half-requires-3 c κs = search needs
-
-half-requires-4 : tie.Need-half-requires-4
-half-requires-4 c κs = search needs
-
 returns : tie.Need-returns
 returns c =
     let start = c .before .before .before .before .before in
@@ -30,4 +18,4 @@ returns c =
 
 pub first-lf-spec : {M : Type 1} → statement M
 first-lf-spec =
-    tie.close (tie.spec half-requires half-requires-2 half-requires-3 half-requires-4 returns)
+    tie.close (tie.spec (λ c κs. search needs) (λ c κs. search needs) (λ c κs. search needs) (λ c κs. search needs) returns)

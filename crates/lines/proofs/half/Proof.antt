@@ -7,12 +7,6 @@ use borrow.Author.Needs.{needs}
 use Rattle.lines.proofs.half.Statement.{statement}
 use Rattle.lines.proofs.half.Tie as tie
 
-has-lf-requires : tie.Need-has-lf-requires
-has-lf-requires c κs = search needs
-
-add-result : tie.Need-add-result
-add-result c = search needs
-
 returns : tie.Need-returns
 returns c =
     let a = c .before .before .before .args in
@@ -24,4 +18,4 @@ returns-2 c =
     (omega arith, ap (λ (b : Bool). cond b (a .from) (a .from + a .n)) (sym (c .if1 .left) ∙ c .before .has-lf .ensures))
 
 pub half-spec : {M : Type 1} → statement M
-half-spec = tie.close (tie.spec has-lf-requires add-result returns returns-2)
+half-spec = tie.close (tie.spec (λ c κs. search needs) (λ c. search needs) returns returns-2)

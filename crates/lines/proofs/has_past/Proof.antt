@@ -10,21 +10,6 @@ use Rattle.lines.specs.Lines.{cut}
 use Rattle.lines.proofs.has_past.Statement.{statement}
 use Rattle.lines.proofs.has_past.Tie as tie
 
-cast-last : tie.Need-cast-last
-cast-last c = search needs
-
-sub-more-lines : tie.Need-sub-more-lines
-sub-more-lines c = search needs
-
-more-lines-requires : tie.Need-more-lines-requires
-more-lines-requires c κs = search needs
-
-returns : tie.Need-returns
-returns c = search needs
-
-more-lines-requires-2 : tie.Need-more-lines-requires-2
-more-lines-requires-2 c κs = search needs
-
 returns-2 : tie.Need-returns-2
 returns-2 c = let entry = (c .before .before .before .args) in
     let none : 0 ≡ 99999 - (entry .number) = omega arith in
@@ -33,4 +18,4 @@ returns-2 c = let entry = (c .before .before .before .args) in
 pub has-past-spec : {M : Type 1} → statement M
 has-past-spec =
     tie.close
-    (tie.spec cast-last sub-more-lines more-lines-requires returns more-lines-requires-2 returns-2)
+    (tie.spec (λ c. search needs) (λ c. search needs) (λ c κs. search needs) (λ c. search needs) (λ c κs. search needs) returns-2)

@@ -10,36 +10,6 @@ use Rattle.listfile.proofs.end_line.Tie as tie
 slice-aggregate-read-line : tie.Need-slice-aggregate-read-line
 slice-aggregate-read-line c = sym (length-take-le (c .before .before .before .args .s .fill) (c .before .before .before .args .line .now) (omega arith))
 
-read-line-requires : tie.Need-read-line-requires
-read-line-requires c κs = search needs
-
-mul-at : tie.Need-mul-at
-mul-at c = search needs
-
-add-to : tie.Need-add-to
-add-to c = search needs
-
-mul-write-reading : tie.Need-mul-write-reading
-mul-write-reading c = search needs
-
-sub-write-reading : tie.Need-sub-write-reading
-sub-write-reading c = search needs
-
-part-write-reading-start : tie.Need-part-write-reading-start
-part-write-reading-start c = search needs
-
-part-write-reading-end : tie.Need-part-write-reading-end
-part-write-reading-end c = search needs
-
-write-reading-requires : tie.Need-write-reading-requires
-write-reading-requires c κs = search needs
-
-add-t11 : tie.Need-add-t11
-add-t11 c = search needs
-
-same-length : tie.Need-same-length
-same-length c = search needs
-
 returns : tie.Need-returns
 returns c = let entry = (c .before .before .before .before .before .before .before .before .before .before .args) in
     let read = (c .before .before .before .before .before .before .read-line) in (
@@ -53,14 +23,6 @@ end-line-spec =
     tie.close
     (tie.spec
     slice-aggregate-read-line
-    read-line-requires
-    mul-at
-    add-to
-    mul-write-reading
-    sub-write-reading
-    part-write-reading-start
-    part-write-reading-end
-    write-reading-requires
-    add-t11
-    same-length
+    (λ c κs. search needs) (λ c. search needs) (λ c. search needs) (λ c. search needs) (λ c. search needs) (λ c. search needs) (λ c. search needs)
+    (λ c κs. search needs) (λ c. search needs) (λ c. search needs)
     returns)

@@ -24,12 +24,6 @@ returns-2 c = let a = (c .before .before .before .before .before .before .args) 
       (c .before .before .before .before .before .before .pre),
     )
 
-end-line-requires : tie.Need-end-line-requires
-end-line-requires c κs = search needs
-
-same-length : tie.Need-same-length
-same-length c = search needs
-
 returns-3 : tie.Need-returns-3
 returns-3 c = let a = (c .before .before .before .before .before .before .before .before .before .before .args) in
     let some = c .before .before .before .before .if2 .left in
@@ -40,4 +34,4 @@ returns-3 c = let a = (c .before .before .before .before .before .before .before
     )
 
 pub finish-spec : {M : Type 1} → statement M
-finish-spec = tie.close (tie.spec returns returns-2 end-line-requires same-length returns-3)
+finish-spec = tie.close (tie.spec returns returns-2 (λ c κs. search needs) (λ c. search needs) returns-3)

@@ -10,12 +10,6 @@ use borrow.Author.Needs.{needs}
 use Rattle.listfile.proofs.take_span.Statement.{statement}
 use Rattle.listfile.proofs.take_span.Tie as tie
 
-keep-requires : tie.Need-keep-requires
-keep-requires c κs = search needs
-
-same-length : tie.Need-same-length
-same-length c = search needs
-
 returns : tie.Need-returns
 returns c =
     let a = (c .before .before .before .before .before .before .args) in
@@ -30,4 +24,4 @@ returns c =
     )
 
 pub take-span-spec : {M : Type 1} → statement M
-take-span-spec = tie.close (tie.spec keep-requires same-length returns)
+take-span-spec = tie.close (tie.spec (λ c κs. search needs) (λ c. search needs) returns)

@@ -6,26 +6,11 @@ use borrow.Author.Needs.{needs}
 use Rattle.lists.proofs.put_six.Statement.{statement}
 use Rattle.lists.proofs.put_six.Tie as tie
 
-slice-write-out : tie.Need-slice-write-out
-slice-write-out c = search needs
-
-slice-write-out-2 : tie.Need-slice-write-out-2
-slice-write-out-2 c = search needs
-
-slice-write-out-3 : tie.Need-slice-write-out-3
-slice-write-out-3 c = search needs
-
-slice-write-out-4 : tie.Need-slice-write-out-4
-slice-write-out-4 c = search needs
-
 slice-write-out-5 : tie.Need-slice-write-out-5
 slice-write-out-5 c = simp length-set (omega (arith, (c .pre)))
 
 slice-write-out-6 : tie.Need-slice-write-out-6
 slice-write-out-6 c = simp length-set (omega (arith, (c .pre)))
-
-same-length : tie.Need-same-length
-same-length c = search needs
 
 returns : tie.Need-returns
 returns c = six-sets (c .args .out .now) (c .args .kind) (c .args .p) (c .args .q) (c .args .r) (c .args .s) (c .args .t) (c .pre)
@@ -34,11 +19,8 @@ pub put-six-spec : {M : Type 1} → statement M
 put-six-spec =
     tie.close
     (tie.spec
-    slice-write-out
-    slice-write-out-2
-    slice-write-out-3
-    slice-write-out-4
+    (λ c. search needs) (λ c. search needs) (λ c. search needs) (λ c. search needs)
     slice-write-out-5
     slice-write-out-6
-    same-length
+    (λ c. search needs)
     returns)

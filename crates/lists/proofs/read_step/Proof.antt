@@ -5,24 +5,6 @@ use Rattle.lists.specs.Words.{kindsOf, readingOf}
 use Rattle.lists.proofs.read_step.Statement.{statement}
 use Rattle.lists.proofs.read_step.Tie as tie
 
-shared-slice-read-kind : tie.Need-shared-slice-read-kind
-shared-slice-read-kind c = search needs
-
-shared-slice-read-p : tie.Need-shared-slice-read-p
-shared-slice-read-p c = search needs
-
-shared-slice-read-q : tie.Need-shared-slice-read-q
-shared-slice-read-q c = search needs
-
-shared-slice-read-r : tie.Need-shared-slice-read-r
-shared-slice-read-r c = search needs
-
-shared-slice-read-s : tie.Need-shared-slice-read-s
-shared-slice-read-s c = search needs
-
-shared-slice-read-t : tie.Need-shared-slice-read-t
-shared-slice-read-t c = search needs
-
 returns : tie.Need-returns
 unfolding readingOf kindsOf
 returns c = rw (c .match .keys1)
@@ -75,12 +57,7 @@ pub read-step-spec : {M : Type 1} → statement M
 read-step-spec =
     tie.close
     (tie.spec
-    shared-slice-read-kind
-    shared-slice-read-p
-    shared-slice-read-q
-    shared-slice-read-r
-    shared-slice-read-s
-    shared-slice-read-t
+    (λ c. search needs) (λ c. search needs) (λ c. search needs) (λ c. search needs) (λ c. search needs) (λ c. search needs)
     returns
     returns-2
     returns-3

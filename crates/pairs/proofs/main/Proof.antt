@@ -7,26 +7,11 @@ use borrow.Author.Needs.{needs}
 use Rattle.pairs.proofs.main.Statement.{statement}
 use Rattle.pairs.proofs.main.Tie as tie
 
-large-buffer-requires : tie.Need-large-buffer-requires
-large-buffer-requires c κs = search needs
-
-buffer-requires : tie.Need-buffer-requires
-buffer-requires c κs = search needs
-
-slice-aggregate-compare-all : tie.Need-slice-aggregate-compare-all
-slice-aggregate-compare-all c = search needs
-
-slice-aggregate-compare-all-2 : tie.Need-slice-aggregate-compare-all-2
-slice-aggregate-compare-all-2 c = search needs
-
 slice-aggregate-compare-all-3 : tie.Need-slice-aggregate-compare-all-3
 slice-aggregate-compare-all-3 c = sym (length-replicate {A = ℕ} 599994 0)
 
 slice-aggregate-compare-all-4 : tie.Need-slice-aggregate-compare-all-4
 slice-aggregate-compare-all-4 c = sym (length-replicate {A = ℕ} 599994 0)
-
-slice-aggregate-compare-all-5 : tie.Need-slice-aggregate-compare-all-5
-slice-aggregate-compare-all-5 c = search needs
 
 compare-all-requires : tie.Need-compare-all-requires
 compare-all-requires c κs = (
@@ -36,19 +21,13 @@ compare-all-requires c κs = (
   le-of-eq (c .before .before .before .before .before .buffer .ensures),
 )
 
-returns : tie.Need-returns
-returns c = search needs
-
 pub main-spec : {M : Type 1} → statement M
 main-spec =
     tie.close
     (tie.spec
-    large-buffer-requires
-    buffer-requires
-    slice-aggregate-compare-all
-    slice-aggregate-compare-all-2
+    (λ c κs. search needs) (λ c κs. search needs) (λ c. search needs) (λ c. search needs)
     slice-aggregate-compare-all-3
     slice-aggregate-compare-all-4
-    slice-aggregate-compare-all-5
+    (λ c. search needs)
     compare-all-requires
-    returns)
+    (λ c. search needs))

@@ -9,9 +9,6 @@ use Rattle.text.proofs.Decimal.{length-ten}
 use Rattle.read_check.proofs.show_field.Statement.{statement}
 use Rattle.read_check.proofs.show_field.Tie as tie
 
-slice-aggregate-put-field : tie.Need-slice-aggregate-put-field
-slice-aggregate-put-field c = search needs
-
 put-field-requires : tie.Need-put-field-requires
 put-field-requires c κs = omega (arith, length-ten (c .before .before .args .n))
 
@@ -27,19 +24,12 @@ slice-aggregate-show c =
     sym (length-take-le (put .result) (put .last .0)
     (omega (arith, put .ensures .place, length-append (a .key .now) (decimal (a .n)), length-ten (a .n))))
 
-show-requires : tie.Need-show-requires
-show-requires c κs = search needs
-
-returns : tie.Need-returns
-returns c = search needs
-
 pub show-field-spec : {M : Type 1} → statement M
 show-field-spec =
     tie.close
     (tie.spec
-    slice-aggregate-put-field
+    (λ c. search needs)
     put-field-requires
     array-share-prefix-out
     slice-aggregate-show
-    show-requires
-    returns)
+    (λ c κs. search needs) (λ c. search needs))

@@ -9,24 +9,6 @@ use borrow.Author.Needs.{needs}
 use Rattle.reader.proofs.do_step.Statement.{statement}
 use Rattle.reader.proofs.do_step.Tie as tie
 
-perform-requires : tie.Need-perform-requires
-perform-requires c κs = search needs
-
-add-k : tie.Need-add-k
-add-k c = search needs
-
-put-step-requires : tie.Need-put-step-requires
-put-step-requires c κs = search needs
-
-same-length : tie.Need-same-length
-same-length c = search needs
-
-same-length-2 : tie.Need-same-length-2
-same-length-2 c = search needs
-
-same-length-3 : tie.Need-same-length-3
-same-length-3 c = search needs
-
 returns : tie.Need-returns
 returns c = let a = (c .before .before .before .before .before .before .before .before .before .before .before .before .before .before .before .before .args) in
     let done = (c .before .before .before .before .before .before .before .before .before .before .perform) in
@@ -40,10 +22,5 @@ pub do-step-spec : {M : Type 1} → statement M
 do-step-spec =
     tie.close
     (tie.spec
-    perform-requires
-    add-k
-    put-step-requires
-    same-length
-    same-length-2
-    same-length-3
+    (λ c κs. search needs) (λ c. search needs) (λ c κs. search needs) (λ c. search needs) (λ c. search needs) (λ c. search needs)
     returns)

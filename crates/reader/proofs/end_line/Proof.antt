@@ -8,12 +8,6 @@ use Rattle.reader.proofs.end_line.Tie as tie
 end-run-line-requires : tie.Need-end-run-line-requires
 end-run-line-requires c κs = (c .before .before .before .before .before .before .before .pre)
 
-same-length : tie.Need-same-length
-same-length c = search needs
-
-same-length-2 : tie.Need-same-length-2
-same-length-2 c = search needs
-
 returns : tie.Need-returns
 returns c = let if1 = (c .before .before .before .before .before .before .before .if1) in
     let ended = (c .before .before .before .before .end-run-line) in
@@ -21,12 +15,6 @@ returns c = let if1 = (c .before .before .before .before .before .before .before
 
 end-module-line-requires : tie.Need-end-module-line-requires
 end-module-line-requires c κs = (c .before .before .before .before .before .before .before .pre)
-
-same-length-3 : tie.Need-same-length-3
-same-length-3 c = search needs
-
-same-length-4 : tie.Need-same-length-4
-same-length-4 c = search needs
 
 returns-2 : tie.Need-returns-2
 returns-2 c = let if1 = (c .before .before .before .before .before .before .before .if1) in
@@ -38,10 +26,8 @@ end-line-spec =
     tie.close
     (tie.spec
     end-run-line-requires
-    same-length
-    same-length-2
+    (λ c. search needs) (λ c. search needs)
     returns
     end-module-line-requires
-    same-length-3
-    same-length-4
+    (λ c. search needs) (λ c. search needs)
     returns-2)

@@ -11,35 +11,8 @@ use Rattle.reader.proofs.end_module_line.Tie as tie
 slice-aggregate-read-module : tie.Need-slice-aggregate-read-module
 slice-aggregate-read-module c = sym (length-take-le (c .before .before .before .before .args .s .fill) (c .before .before .before .before .args .line .now) (omega arith))
 
-read-module-requires : tie.Need-read-module-requires
-read-module-requires c κs = search needs
-
-enum-known-read : tie.Need-enum-known-read
-enum-known-read c = search needs
-
-refuse-requires : tie.Need-refuse-requires
-refuse-requires c κs = search needs
-
-enum-known-read-2 : tie.Need-enum-known-read-2
-enum-known-read-2 c = search needs
-
 place-requires : tie.Need-place-requires
 place-requires c κs = (c .before .before .before .before .before .before .before .before .before .pre .0 .fit)
-
-enum-known-verdict : tie.Need-enum-known-verdict
-enum-known-verdict c = search needs
-
-refuse-requires-2 : tie.Need-refuse-requires-2
-refuse-requires-2 c κs = search needs
-
-enum-told : tie.Need-enum-told
-enum-told c = search needs
-
-add-t21 : tie.Need-add-t21
-add-t21 c = search needs
-
-same-length : tie.Need-same-length
-same-length c = search needs
 
 returns : tie.Need-returns
 returns c = let entry = (c .before .before .before .before .before .before .before .before .before .before .before .before .args) in
@@ -50,12 +23,6 @@ returns c = let entry = (c .before .before .before .before .before .before .befo
           (sym (read-module .ensures .0) ∙ (c .before .before .before .before .before .read .given .1)),
       record { filled = omega arith; lined = omega arith; within = omega arith; fit = pre .0 .fit },
     )
-
-same-length-2 : tie.Need-same-length-2
-same-length-2 c = search needs
-
-same-length-3 : tie.Need-same-length-3
-same-length-3 c = search needs
 
 returns-2 : tie.Need-returns-2
 returns-2 c =
@@ -70,9 +37,6 @@ returns-2 c =
           (sym (read-module .ensures .0) ∙ (read2 .given .1)) (placed .ensures .0) (c .before .before .before .before .before .verdict .given .1),
       record { filled = omega arith; lined = omega arith; within = omega arith; fit = placed .ensures .1 },
     )
-
-same-length-4 : tie.Need-same-length-4
-same-length-4 c = search needs
 
 returns-3 : tie.Need-returns-3
 returns-3 c = let entry = (c .before .before .before .before .before .before .before .before .before .before .before .before .before .before .before .args) in
@@ -90,19 +54,11 @@ end-module-line-spec =
     tie.close
     (tie.spec
     slice-aggregate-read-module
-    read-module-requires
-    enum-known-read
-    refuse-requires
-    enum-known-read-2
+    (λ c κs. search needs) (λ c. search needs) (λ c κs. search needs) (λ c. search needs)
     place-requires
-    enum-known-verdict
-    refuse-requires-2
-    enum-told
-    add-t21
-    same-length
+    (λ c. search needs) (λ c κs. search needs) (λ c. search needs) (λ c. search needs) (λ c. search needs)
     returns
-    same-length-2
-    same-length-3
+    (λ c. search needs) (λ c. search needs)
     returns-2
-    same-length-4
+    (λ c. search needs)
     returns-3)

@@ -32,15 +32,6 @@ returns-3 c = let pre = (c .before .before .before .before .before .before .befo
       record { filled = omega arith; lined = omega arith; within = omega arith; fit = pre .fit },
     )
 
-end-line-requires : tie.Need-end-line-requires
-end-line-requires c κs = search needs
-
-same-length : tie.Need-same-length
-same-length c = search needs
-
-same-length-2 : tie.Need-same-length-2
-same-length-2 c = search needs
-
 returns-4 : tie.Need-returns-4
 returns-4 c =
     let a = c .before .before .before .before .before .before .before .before .before .before .before .before .before .before .before .before .args in
@@ -54,4 +45,4 @@ returns-4 c =
 pub finish-spec : {M : Type 1} → statement M
 finish-spec =
     tie.close
-    (tie.spec returns returns-2 returns-3 end-line-requires same-length same-length-2 returns-4)
+    (tie.spec returns returns-2 returns-3 (λ c κs. search needs) (λ c. search needs) (λ c. search needs) returns-4)

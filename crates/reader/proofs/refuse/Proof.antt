@@ -7,15 +7,6 @@ use borrow.Author.Needs.{needs}
 use Rattle.reader.proofs.refuse.Statement.{statement}
 use Rattle.reader.proofs.refuse.Tie as tie
 
-add-k : tie.Need-add-k
-add-k c = search needs
-
-put-crate-refusal-requires : tie.Need-put-crate-refusal-requires
-put-crate-refusal-requires c κs = search needs
-
-same-length : tie.Need-same-length
-same-length c = search needs
-
 returns : tie.Need-returns
 returns c = (
   λ l m n. states refl refl refl refl refl (put-front (c .before .before .put-crate-refusal .ensures) (omega arith)),
@@ -23,4 +14,4 @@ returns c = (
 )
 
 pub refuse-spec : {M : Type 1} → statement M
-refuse-spec = tie.close (tie.spec add-k put-crate-refusal-requires same-length returns)
+refuse-spec = tie.close (tie.spec (λ c. search needs) (λ c κs. search needs) (λ c. search needs) returns)

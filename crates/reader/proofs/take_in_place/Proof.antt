@@ -35,9 +35,6 @@ returns-2 c = let pre = (c .before .before .before .before .before .before .befo
       (omega arith, pre .1 .0),
     )
 
-least-requires : tie.Need-least-requires
-least-requires c κs = search needs
-
 slice-aggregate-end-line : tie.Need-slice-aggregate-end-line
 slice-aggregate-end-line c = sym (length-take-le 81 (c .before .before .before .before .before .before .before .before .before .args .text .now) (omega arith))
 
@@ -45,12 +42,6 @@ end-line-requires : tie.Need-end-line-requires
 end-line-requires c κs = let entry = (c .before .before .before .before .before .before .before .before .before .before .before .args) in
     let pre = (c .before .before .before .before .before .before .before .before .before .before .before .pre) in
     (record { filled = omega arith; lined = length-take-le 81 (entry .text .now) (omega arith); room = omega arith; fit = pre .1 .0 }, omega arith)
-
-same-length : tie.Need-same-length
-same-length c = search needs
-
-same-length-2 : tie.Need-same-length-2
-same-length-2 c = search needs
 
 returns-3 : tie.Need-returns-3
 returns-3 c = let pre = (c .before .before .before .before .before .before .before .before .before .before .before .before .before .before .before .before .pre) in
@@ -74,9 +65,8 @@ take-in-place-spec =
     (tie.spec
     returns
     returns-2
-    least-requires
+    (λ c κs. search needs)
     slice-aggregate-end-line
     end-line-requires
-    same-length
-    same-length-2
+    (λ c. search needs) (λ c. search needs)
     returns-3)

@@ -18,15 +18,6 @@ returns-2 c = (
   record { filled = omega arith; lined = omega arith; within = omega arith; fit = c .before .before .before .before .before .before .before .pre .fit },
 )
 
-end-line-requires : tie.Need-end-line-requires
-end-line-requires c κs = search needs
-
-same-length : tie.Need-same-length
-same-length c = search needs
-
-same-length-2 : tie.Need-same-length-2
-same-length-2 c = search needs
-
 returns-3 : tie.Need-returns-3
 returns-3 c =
     let d = c .before .before .before .before .end-line .ensures in
@@ -35,4 +26,4 @@ returns-3 c =
 pub take-lf-spec : {M : Type 1} → statement M
 take-lf-spec =
     tie.close
-    (tie.spec returns returns-2 end-line-requires same-length same-length-2 returns-3)
+    (tie.spec returns returns-2 (λ c κs. search needs) (λ c. search needs) (λ c. search needs) returns-3)

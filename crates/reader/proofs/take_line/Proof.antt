@@ -18,12 +18,6 @@ take-in-place-requires c κs = let start = c .before .before .before .before .be
     let pre = start .pre in
     (((c .before .before .before .if1 .taken), omega arith, omega arith, omega arith), (pre .0 .fit, no-lf-front (a .text .now) (a .n) (pre .1 .0)))
 
-same-length : tie.Need-same-length
-same-length c = search needs
-
-same-length-2 : tie.Need-same-length-2
-same-length-2 c = search needs
-
 returns : tie.Need-returns
 returns c = let start = c .before .before .before .before .before .before .before .before .before .before .before .before .before in
     let a = start .args in
@@ -44,18 +38,6 @@ take-span-requires : tie.Need-take-span-requires
 take-span-requires c κs = let start = c .before .before .before .before .before .before .before in
     (omega arith, no-lf-front (start .args .text .now) (start .args .n) (start .pre .1 .0))
 
-take-lf-requires : tie.Need-take-lf-requires
-take-lf-requires c κs = search needs
-
-same-length-3 : tie.Need-same-length-3
-same-length-3 c = search needs
-
-same-length-4 : tie.Need-same-length-4
-same-length-4 c = search needs
-
-same-length-5 : tie.Need-same-length-5
-same-length-5 c = search needs
-
 returns-2 : tie.Need-returns-2
 returns-2 c =
     let spanned = c .before .before .before .before .before .before .before .before .before .before in
@@ -75,13 +57,9 @@ take-line-spec =
     tie.close
     (tie.spec
     take-in-place-requires
-    same-length
-    same-length-2
+    (λ c. search needs) (λ c. search needs)
     returns
     slice-aggregate-take-span
     take-span-requires
-    take-lf-requires
-    same-length-3
-    same-length-4
-    same-length-5
+    (λ c κs. search needs) (λ c. search needs) (λ c. search needs) (λ c. search needs)
     returns-2)

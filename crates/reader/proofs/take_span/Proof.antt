@@ -23,12 +23,6 @@ returns-2 c = let a = c .before .before .before .before .before .before .args in
   omega arith,
 )
 
-keep-requires : tie.Need-keep-requires
-keep-requires c κs = search needs
-
-same-length : tie.Need-same-length
-same-length c = search needs
-
 returns-3 : tie.Need-returns-3
 returns-3 c =
     let a = c .before .before .before .before .before .before .before .before .before .before .args in
@@ -46,4 +40,4 @@ returns-3 c =
     )
 
 pub take-span-spec : {M : Type 1} → statement M
-take-span-spec = tie.close (tie.spec returns returns-2 keep-requires same-length returns-3)
+take-span-spec = tie.close (tie.spec returns returns-2 (λ c κs. search needs) (λ c. search needs) returns-3)

@@ -10,38 +10,8 @@ use borrow.Author.Needs.{needs}
 use Rattle.regrouping.proofs.compare_files.Statement.{statement}
 use Rattle.regrouping.proofs.compare_files.Tie as tie
 
-take-list-requires : tie.Need-take-list-requires
-take-list-requires c κs = search needs
-
-take-list-requires-2 : tie.Need-take-list-requires-2
-take-list-requires-2 c κs = search needs
-
-same-length : tie.Need-same-length
-same-length c = search needs
-
-same-length-2 : tie.Need-same-length-2
-same-length-2 c = search needs
-
-same-length-3 : tie.Need-same-length-3
-same-length-3 c = search needs
-
-same-length-4 : tie.Need-same-length-4
-same-length-4 c = search needs
-
 returns : tie.Need-returns
 returns c = inl refl
-
-same-length-5 : tie.Need-same-length-5
-same-length-5 c = search needs
-
-same-length-6 : tie.Need-same-length-6
-same-length-6 c = search needs
-
-same-length-7 : tie.Need-same-length-7
-same-length-7 c = search needs
-
-same-length-8 : tie.Need-same-length-8
-same-length-8 c = search needs
 
 returns-2 : tie.Need-returns-2
 returns-2 c = inl refl
@@ -99,21 +69,6 @@ tell-requires c κs =
       omega (arith, pre .3),
     )
 
-same-length-9 : tie.Need-same-length-9
-same-length-9 c = search needs
-
-same-length-10 : tie.Need-same-length-10
-same-length-10 c = search needs
-
-same-length-11 : tie.Need-same-length-11
-same-length-11 c = search needs
-
-same-length-12 : tie.Need-same-length-12
-same-length-12 c = search needs
-
-same-length-13 : tie.Need-same-length-13
-same-length-13 c = search needs
-
 returns-3 : tie.Need-returns-3
 returns-3 c =
     let far = c .before .before .before .before .before .before .before .before .before .before .before .before .before .before .before .before .before .before in
@@ -128,17 +83,9 @@ pub compare-files-spec : {M : Type 1} → statement M
 compare-files-spec =
     tie.close
     (tie.spec
-    take-list-requires
-    take-list-requires-2
-    same-length
-    same-length-2
-    same-length-3
-    same-length-4
+    (λ c κs. search needs) (λ c κs. search needs) (λ c. search needs) (λ c. search needs) (λ c. search needs) (λ c. search needs)
     returns
-    same-length-5
-    same-length-6
-    same-length-7
-    same-length-8
+    (λ c. search needs) (λ c. search needs) (λ c. search needs) (λ c. search needs)
     returns-2
     mul-p
     mul-q
@@ -147,9 +94,5 @@ compare-files-spec =
     slice-reshare-prefix-tell-2
     slice-aggregate-tell-2
     tell-requires
-    same-length-9
-    same-length-10
-    same-length-11
-    same-length-12
-    same-length-13
+    (λ c. search needs) (λ c. search needs) (λ c. search needs) (λ c. search needs) (λ c. search needs)
     returns-3)

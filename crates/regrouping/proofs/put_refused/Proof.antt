@@ -8,21 +8,12 @@ use borrow.Author.Needs.{needs}
 use Rattle.regrouping.proofs.put_refused.Statement.{statement}
 use Rattle.regrouping.proofs.put_refused.Tie as tie
 
-slice-aggregate-put-field : tie.Need-slice-aggregate-put-field
-slice-aggregate-put-field c = search needs
-
 put-field-requires : tie.Need-put-field-requires
 put-field-requires c κs = omega (arith, length-ten (c .before .before .before .args .many))
-
-slice-aggregate-put-field-2 : tie.Need-slice-aggregate-put-field-2
-slice-aggregate-put-field-2 c = search needs
 
 put-field-requires-2 : tie.Need-put-field-requires-2
 put-field-requires-2 c κs = let entry = (c .before .before .before .before .before .before .before .before .args) in
     omega (arith, after-field (bytes ": ") (entry .many) (c .before .before .before .before .put-field .ensures), length-ten (entry .all))
-
-slice-aggregate-put-bytes : tie.Need-slice-aggregate-put-bytes
-slice-aggregate-put-bytes c = search needs
 
 put-bytes-requires : tie.Need-put-bytes-requires
 put-bytes-requires c κs = let entry = (c .before .before .before .before .before .before .before .before .before .before .before .before .before .args) in
@@ -34,9 +25,6 @@ put-bytes-requires c κs = let entry = (c .before .before .before .before .befor
           (c .before .before .before .before .put-field2 .ensures),
     )
 
-same-length : tie.Need-same-length
-same-length c = search needs
-
 returns : tie.Need-returns
 unfolding refusedText
 returns c = let many = (c .before .before .before .before .before .before .before .before .before .before .before .before .put-field) in
@@ -47,11 +35,11 @@ pub put-refused-spec : {M : Type 1} → statement M
 put-refused-spec =
     tie.close
     (tie.spec
-    slice-aggregate-put-field
+    (λ c. search needs)
     put-field-requires
-    slice-aggregate-put-field-2
+    (λ c. search needs)
     put-field-requires-2
-    slice-aggregate-put-bytes
+    (λ c. search needs)
     put-bytes-requires
-    same-length
+    (λ c. search needs)
     returns)

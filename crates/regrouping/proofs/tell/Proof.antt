@@ -7,23 +7,8 @@ use borrow.Author.Needs.{needs}
 use Rattle.regrouping.proofs.tell.Statement.{statement}
 use Rattle.regrouping.proofs.tell.Tie as tie
 
-say-refused-requires : tie.Need-say-refused-requires
-say-refused-requires c κs = search needs
-
-say-refused-requires-2 : tie.Need-say-refused-requires-2
-say-refused-requires-2 c κs = search needs
-
-put-report-requires : tie.Need-put-report-requires
-put-report-requires c κs = search needs
-
-slice-aggregate-write-out : tie.Need-slice-aggregate-write-out
-slice-aggregate-write-out c = search needs
-
 write-out-requires : tie.Need-write-out-requires
 write-out-requires c κs = put-within (c .before .before .before .before .put-report .ensures .put)
-
-same-length : tie.Need-same-length
-same-length c = search needs
 
 returns : tie.Need-returns
 returns c = let put = (c .before .before .before .before .before .put-report) in
@@ -34,10 +19,7 @@ pub tell-spec : {M : Type 1} → statement M
 tell-spec =
     tie.close
     (tie.spec
-    say-refused-requires
-    say-refused-requires-2
-    put-report-requires
-    slice-aggregate-write-out
+    (λ c κs. search needs) (λ c κs. search needs) (λ c κs. search needs) (λ c. search needs)
     write-out-requires
-    same-length
+    (λ c. search needs)
     returns)

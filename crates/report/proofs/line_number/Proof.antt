@@ -5,12 +5,6 @@ use borrow.Author.Needs.{needs}
 use Rattle.report.proofs.line_number.Statement.{statement}
 use Rattle.report.proofs.line_number.Tie as tie
 
-cast-result : tie.Need-cast-result
-cast-result c = search needs
-
-add-result : tie.Need-add-result
-add-result c = search needs
-
 returns : tie.Need-returns
 returns c = line-in (c .before .args .place) (c .before .args .many) (omega arith)
 
@@ -18,4 +12,4 @@ returns-2 : tie.Need-returns-2
 returns-2 c = line-past (c .before .args .place) (c .before .args .many) (omega arith)
 
 pub line-number-spec : {M : Type 1} → statement M
-line-number-spec = tie.close (tie.spec cast-result add-result returns returns-2)
+line-number-spec = tie.close (tie.spec (λ c. search needs) (λ c. search needs) returns returns-2)

@@ -7,24 +7,6 @@ use borrow.Author.Needs.{needs}
 use Rattle.report.proofs.part_alike.Statement.{statement}
 use Rattle.report.proofs.part_alike.Tie as tie
 
-enum-told : tie.Need-enum-told
-enum-told c = search needs
-
-enum-told-2 : tie.Need-enum-told-2
-enum-told-2 c = search needs
-
-enum-told-3 : tie.Need-enum-told-3
-enum-told-3 c = search needs
-
-enum-known-x : tie.Need-enum-known-x
-enum-known-x c = search needs
-
-enum-told-4 : tie.Need-enum-told-4
-enum-told-4 c = search needs
-
-enum-known-y : tie.Need-enum-known-y
-enum-known-y c = search needs
-
 returns : tie.Need-returns
 unfolding alike
 returns c = alike-as (c .before .before .before .before .before .x .given .1) (c .before .before .y .given .1) (rw (ne-eqb _ _ (c .if1 .taken)))
@@ -57,12 +39,7 @@ pub part-alike-spec : {M : Type 1} → statement M
 part-alike-spec =
     tie.close
     (tie.spec
-    enum-told
-    enum-told-2
-    enum-told-3
-    enum-known-x
-    enum-told-4
-    enum-known-y
+    (λ c. search needs) (λ c. search needs) (λ c. search needs) (λ c. search needs) (λ c. search needs) (λ c. search needs)
     returns
     returns-2
     returns-3

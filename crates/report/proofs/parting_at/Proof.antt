@@ -4,22 +4,10 @@ use borrow.Author.Needs.{needs}
 use Rattle.report.proofs.parting_at.Statement.{statement}
 use Rattle.report.proofs.parting_at.Tie as tie
 
-find-requires : tie.Need-find-requires
-find-requires c κs = search needs
-
-line-number-requires : tie.Need-line-number-requires
-line-number-requires c κs = search needs
-
-line-number-requires-2 : tie.Need-line-number-requires-2
-line-number-requires-2 c κs = search needs
-
-line-number-requires-3 : tie.Need-line-number-requires-3
-line-number-requires-3 c κs = search needs
-
 returns : tie.Need-returns
 returns c =
     let stands = (c .before .before .before .find .ensures) in
     parting-lines stands (c .before .before .line-number .ensures) (c .before .line-number2 .ensures) (c .line-number3 .ensures)
 
 pub parting-at-spec : {M : Type 1} → statement M
-parting-at-spec = tie.close (tie.spec find-requires line-number-requires line-number-requires-2 line-number-requires-3 returns)
+parting-at-spec = tie.close (tie.spec (λ c κs. search needs) (λ c κs. search needs) (λ c κs. search needs) (λ c κs. search needs) returns)

@@ -4,18 +4,6 @@ use borrow.Author.Needs.{needs}
 use Rattle.report.proofs.parting_of.Statement.{statement}
 use Rattle.report.proofs.parting_of.Tie as tie
 
-watch-requires : tie.Need-watch-requires
-watch-requires c κs = search needs
-
-enum-told : tie.Need-enum-told
-enum-told c = search needs
-
-enum-known-v : tie.Need-enum-known-v
-enum-known-v c = search needs
-
-parting-at-requires : tie.Need-parting-at-requires
-parting-at-requires c κs = search needs
-
 returns : tie.Need-returns
 returns c = parts-nowhere (c .enum-told .given .1) (c .before .before .watch .ensures)
 
@@ -25,4 +13,4 @@ returns-2 c = parts-at (c .before .before .v .given .1) (c .before .before .befo
 pub parting-of-spec : {M : Type 1} → statement M
 parting-of-spec =
     tie.close
-    (tie.spec watch-requires enum-told enum-known-v parting-at-requires returns returns-2)
+    (tie.spec (λ c κs. search needs) (λ c. search needs) (λ c. search needs) (λ c κs. search needs) returns returns-2)

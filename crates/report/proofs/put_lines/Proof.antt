@@ -10,28 +10,16 @@ put-refusals-requires c κs =
     let p = (c .before .before .before .before .before .pre) in
     ((p .0 .0, p .0 .1, omega arith, omega (arith, p .0 .2)), (omega (arith, (c .before .if1 .taken)), p .1 .0 .1, λ n a b. p .1 .1 n (omega (arith, a)) b))
 
-same-length : tie.Need-same-length
-same-length c = search needs
-
 returns : tie.Need-returns
 returns c =
     let none = (c .before .before .before .before .before .before .before .before .pre .1 .1) in
     lines-refusals (omega (arith, (c .before .before .before .before .if1 .taken))) none (c .before .before .put-refusals .ensures)
-
-put-runs-requires : tie.Need-put-runs-requires
-put-runs-requires c κs = search needs
-
-add-put-refusals : tie.Need-add-put-refusals
-add-put-refusals c = search needs
 
 put-refusals-requires-2 : tie.Need-put-refusals-requires-2
 put-refusals-requires-2 c κs =
     let p = (c .before .before .before .before .before .before .before .before .before .pre .0) in
     let few = (c .before .before .before .put-runs .ensures) .short in
     ((p .0, p .1, few, omega (arith, p .2)), (omega arith, omega arith, λ n a b. absurd (omega (arith, a, b))))
-
-same-length-2 : tie.Need-same-length-2
-same-length-2 c = search needs
 
 returns-2 : tie.Need-returns-2
 returns-2 c = lines-both (c .before .before .before .before .before .before .put-runs .ensures) (c .before .before .put-refusals2 .ensures)
@@ -41,10 +29,9 @@ put-lines-spec =
     tie.close
     (tie.spec
     put-refusals-requires
-    same-length
+    (λ c. search needs)
     returns
-    put-runs-requires
-    add-put-refusals
+    (λ c κs. search needs) (λ c. search needs)
     put-refusals-requires-2
-    same-length-2
+    (λ c. search needs)
     returns-2)

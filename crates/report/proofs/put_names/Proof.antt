@@ -9,30 +9,18 @@ use borrow.Author.Needs.{needs}
 use Rattle.report.proofs.put_names.Statement.{statement}
 use Rattle.report.proofs.put_names.Tie as tie
 
-slice-aggregate-put-field : tie.Need-slice-aggregate-put-field
-slice-aggregate-put-field c = search needs
-
 put-field-requires : tie.Need-put-field-requires
 put-field-requires c κs = omega (arith, length-ten (c .before .before .before .args .low))
-
-same-length : tie.Need-same-length
-same-length c = search needs
 
 returns : tie.Need-returns
 returns c =
     let a = (c .before .before .before .before .before .before .before .args) in
     of-text (names-one (a .low) (a .high) (c .if1 .taken)) (c .before .before .before .put-field .ensures)
 
-slice-aggregate-put-field-2 : tie.Need-slice-aggregate-put-field-2
-slice-aggregate-put-field-2 c = search needs
-
 put-field-requires-2 : tie.Need-put-field-requires-2
 put-field-requires-2 c κs =
     let a = (c .before .before .before .before .before .before .before .before .before .args) in
     omega (arith, after-field (bytes "n=") (a .low) (c .before .before .before .before .before .put-field .ensures), length-ten (a .high))
-
-same-length-2 : tie.Need-same-length-2
-same-length-2 c = search needs
 
 returns-2 : tie.Need-returns-2
 returns-2 c =
@@ -45,11 +33,11 @@ pub put-names-spec : {M : Type 1} → statement M
 put-names-spec =
     tie.close
     (tie.spec
-    slice-aggregate-put-field
+    (λ c. search needs)
     put-field-requires
-    same-length
+    (λ c. search needs)
     returns
-    slice-aggregate-put-field-2
+    (λ c. search needs)
     put-field-requires-2
-    same-length-2
+    (λ c. search needs)
     returns-2)

@@ -8,31 +8,19 @@ use borrow.Author.Needs.{needs}
 use Rattle.report.proofs.put_numbers.Statement.{statement}
 use Rattle.report.proofs.put_numbers.Tie as tie
 
-slice-aggregate-put-field : tie.Need-slice-aggregate-put-field
-slice-aggregate-put-field c = search needs
-
 put-field-requires : tie.Need-put-field-requires
 put-field-requires c κs = omega (arith, length-ten ((c .before .before .before .args) .first))
-
-slice-aggregate-put-field-2 : tie.Need-slice-aggregate-put-field-2
-slice-aggregate-put-field-2 c = search needs
 
 put-field-requires-2 : tie.Need-put-field-requires-2
 put-field-requires-2 c κs =
     let a = (c .before .before .before .before .before .before .before .before .args) in
     omega (arith, after-field (bytes " first=") (a .first) (c .before .before .before .before .put-field .ensures), length-ten (a .second))
 
-slice-aggregate-put-field-3 : tie.Need-slice-aggregate-put-field-3
-slice-aggregate-put-field-3 c = search needs
-
 put-field-requires-3 : tie.Need-put-field-requires-3
 put-field-requires-3 c κs =
     let a = (c .before .before .before .before .before .before .before .before .before .before .before .before .before .args) in
     let first = after-field (bytes " first=") (a .first) (c .before .before .before .before .before .before .before .before .before .put-field .ensures) in
     omega (arith, first, after-field (bytes " second=") (a .second) (c .before .before .before .before .put-field2 .ensures), length-ten (a .stands))
-
-slice-aggregate-put-bytes : tie.Need-slice-aggregate-put-bytes
-slice-aggregate-put-bytes c = search needs
 
 put-bytes-requires : tie.Need-put-bytes-requires
 put-bytes-requires c κs =
@@ -41,9 +29,6 @@ put-bytes-requires c κs =
     let first = after-field (bytes " first=") (a .first) put in
     let second = after-field (bytes " second=") (a .second) (c .before .before .before .before .before .before .before .before .before .put-field2 .ensures) in
     omega (arith, first, second, after-field (bytes " stands=") (a .stands) (c .before .before .before .before .put-field3 .ensures))
-
-same-length : tie.Need-same-length
-same-length c = search needs
 
 returns : tie.Need-returns
 unfolding numbersText
@@ -57,13 +42,13 @@ pub put-numbers-spec : {M : Type 1} → statement M
 put-numbers-spec =
     tie.close
     (tie.spec
-    slice-aggregate-put-field
+    (λ c. search needs)
     put-field-requires
-    slice-aggregate-put-field-2
+    (λ c. search needs)
     put-field-requires-2
-    slice-aggregate-put-field-3
+    (λ c. search needs)
     put-field-requires-3
-    slice-aggregate-put-bytes
+    (λ c. search needs)
     put-bytes-requires
-    same-length
+    (λ c. search needs)
     returns)

@@ -9,15 +9,6 @@ use borrow.Author.Needs.{needs}
 use Rattle.report.proofs.put_refusal.Statement.{statement}
 use Rattle.report.proofs.put_refusal.Tie as tie
 
-enum-told : tie.Need-enum-told
-enum-told c = search needs
-
-enum-known-x : tie.Need-enum-known-x
-enum-known-x c = search needs
-
-slice-aggregate-put-field : tie.Need-slice-aggregate-put-field
-slice-aggregate-put-field c = search needs
-
 put-field-requires : tie.Need-put-field-requires
 put-field-requires c κs = omega (arith, length-ten (c .before .before .before .before .before .before .args .q))
 
@@ -28,9 +19,6 @@ put-numbers-requires c κs =
 
 returns : tie.Need-returns
 returns c = let a = (c .before .before .before .args) in line-as (field "refused=" (a .q)) (c .enum-told .given .1) (put-nothing (a .out .now) (a .at))
-
-same-length : tie.Need-same-length
-same-length c = search needs
 
 returns-2 : tie.Need-returns-2
 returns-2 c =
@@ -43,11 +31,9 @@ pub put-refusal-spec : {M : Type 1} → statement M
 put-refusal-spec =
     tie.close
     (tie.spec
-    enum-told
-    enum-known-x
-    slice-aggregate-put-field
+    (λ c. search needs) (λ c. search needs) (λ c. search needs)
     put-field-requires
     put-numbers-requires
     returns
-    same-length
+    (λ c. search needs)
     returns-2)

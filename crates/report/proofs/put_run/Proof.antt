@@ -8,15 +8,6 @@ use borrow.Author.Needs.{needs}
 use Rattle.report.proofs.put_run.Statement.{statement}
 use Rattle.report.proofs.put_run.Tie as tie
 
-enum-told : tie.Need-enum-told
-enum-told c = search needs
-
-enum-known-x : tie.Need-enum-known-x
-enum-known-x c = search needs
-
-put-names-requires : tie.Need-put-names-requires
-put-names-requires c κs = search needs
-
 put-numbers-requires : tie.Need-put-numbers-requires
 put-numbers-requires c κs =
     let a = (c .before .before .before .before .before .before .before .before .before .args) in
@@ -24,9 +15,6 @@ put-numbers-requires c κs =
 
 returns : tie.Need-returns
 returns c = let a = (c .before .before .before .args) in line-as (namesText (a .low) (a .high)) (c .enum-told .given .1) (put-nothing (a .out .now) (a .at))
-
-same-length : tie.Need-same-length
-same-length c = search needs
 
 returns-2 : tie.Need-returns-2
 returns-2 c =
@@ -39,10 +27,8 @@ pub put-run-spec : {M : Type 1} → statement M
 put-run-spec =
     tie.close
     (tie.spec
-    enum-told
-    enum-known-x
-    put-names-requires
+    (λ c. search needs) (λ c. search needs) (λ c κs. search needs)
     put-numbers-requires
     returns
-    same-length
+    (λ c. search needs)
     returns-2)

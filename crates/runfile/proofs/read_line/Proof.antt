@@ -20,51 +20,6 @@ both l r e = (e, reads-of l r e)
 returns : tie.Need-returns
 returns c = both (c .before .before .args .line .now) _ (no-letter (c .before .before .args .line .now) (c .if1 .taken))
 
-shared-slice-read-match : tie.Need-shared-slice-read-match
-shared-slice-read-match c = search needs
-
-read-naf-requires : tie.Need-read-naf-requires
-read-naf-requires c κs = search needs
-
-read-front-requires : tie.Need-read-front-requires
-read-front-requires c κs = search needs
-
-slice-aggregate-read-bare : tie.Need-slice-aggregate-read-bare
-slice-aggregate-read-bare c = search needs
-
-read-bare-requires : tie.Need-read-bare-requires
-read-bare-requires c κs = search needs
-
-slice-aggregate-read-bare-2 : tie.Need-slice-aggregate-read-bare-2
-slice-aggregate-read-bare-2 c = search needs
-
-read-bare-requires-2 : tie.Need-read-bare-requires-2
-read-bare-requires-2 c κs = search needs
-
-read-inhibit-requires : tie.Need-read-inhibit-requires
-read-inhibit-requires c κs = search needs
-
-slice-aggregate-read-bare-3 : tie.Need-slice-aggregate-read-bare-3
-slice-aggregate-read-bare-3 c = search needs
-
-read-bare-requires-3 : tie.Need-read-bare-requires-3
-read-bare-requires-3 c κs = search needs
-
-read-scan-requires : tie.Need-read-scan-requires
-read-scan-requires c κs = search needs
-
-read-stop-requires : tie.Need-read-stop-requires
-read-stop-requires c κs = search needs
-
-or-else-requires : tie.Need-or-else-requires
-or-else-requires c κs = search needs
-
-read-repeat-requires : tie.Need-read-repeat-requires
-read-repeat-requires c κs = search needs
-
-read-put-requires : tie.Need-read-put-requires
-read-put-requires c κs = search needs
-
 returns-2 : tie.Need-returns-2
 returns-2 c = let entry = (c .before .before .before .before .before .args) in
     both (entry .line .now) _ (c .read-naf .ensures ∙ letter-n (entry .line .now) (c .before .match .keys1))
@@ -113,21 +68,9 @@ read-line-spec =
     tie.close
     (tie.spec
     returns
-    shared-slice-read-match
-    read-naf-requires
-    read-front-requires
-    slice-aggregate-read-bare
-    read-bare-requires
-    slice-aggregate-read-bare-2
-    read-bare-requires-2
-    read-inhibit-requires
-    slice-aggregate-read-bare-3
-    read-bare-requires-3
-    read-scan-requires
-    read-stop-requires
-    or-else-requires
-    read-repeat-requires
-    read-put-requires
+    (λ c. search needs) (λ c κs. search needs) (λ c κs. search needs) (λ c. search needs) (λ c κs. search needs) (λ c. search needs)
+    (λ c κs. search needs) (λ c κs. search needs) (λ c. search needs) (λ c κs. search needs) (λ c κs. search needs) (λ c κs. search needs)
+    (λ c κs. search needs) (λ c κs. search needs) (λ c κs. search needs)
     returns-2
     returns-3
     returns-4

@@ -4,13 +4,10 @@ use Rattle.runfile.proofs.CrateLines.{reads-module-of}
 use Rattle.runfile.proofs.read_module.Statement.{statement}
 use Rattle.runfile.proofs.read_module.Tie as tie
 
-read-fields-requires : tie.Need-read-fields-requires
-read-fields-requires c κs = search needs
-
 returns : tie.Need-returns
 returns c =
     let value = c .read-fields .ensures in
     (value, reads-module-of (c .before .before .args .line .now) _ value)
 
 pub read-module-spec : {M : Type 1} → statement M
-read-module-spec = tie.close (tie.spec read-fields-requires returns)
+read-module-spec = tie.close (tie.spec (λ c κs. search needs) returns)

@@ -12,17 +12,8 @@ use Rattle.text.specs.Text.{bytes, field}
 use Rattle.sheet.proofs.put_crate_refusal.Statement.{statement}
 use Rattle.sheet.proofs.put_crate_refusal.Tie as tie
 
-slice-aggregate-put-field : tie.Need-slice-aggregate-put-field
-slice-aggregate-put-field c = search needs
-
 put-field-requires : tie.Need-put-field-requires
 put-field-requires c κs = omega (arith, length-ten (c .before .before .before .args .k))
-
-slice-aggregate-put-field-2 : tie.Need-slice-aggregate-put-field-2
-slice-aggregate-put-field-2 c = search needs
-
-refusal-number-requires : tie.Need-refusal-number-requires
-refusal-number-requires c κs = search needs
 
 put-field-requires-2 : tie.Need-put-field-requires-2
 put-field-requires-2 c κs = omega (
@@ -31,9 +22,6 @@ put-field-requires-2 c κs = omega (
       (c .before .before .before .before .before .put-field .ensures),
   length-ten (c .refusal-number .result),
 )
-
-slice-aggregate-put-bytes : tie.Need-slice-aggregate-put-bytes
-slice-aggregate-put-bytes c = search needs
 
 put-bytes-requires : tie.Need-put-bytes-requires
 put-bytes-requires c κs = omega (
@@ -44,9 +32,6 @@ put-bytes-requires c κs = omega (
   after-field (bytes " refused=") (c .before .before .before .before .before .refusal-number .result)
       (c .before .before .before .before .put-field2 .ensures),
 )
-
-same-length : tie.Need-same-length
-same-length c = search needs
 
 returns : tie.Need-returns
 unfolding crateText
@@ -62,12 +47,11 @@ pub put-crate-refusal-spec : {M : Type 1} → statement M
 put-crate-refusal-spec =
     tie.close
     (tie.spec
-    slice-aggregate-put-field
+    (λ c. search needs)
     put-field-requires
-    slice-aggregate-put-field-2
-    refusal-number-requires
+    (λ c. search needs) (λ c κs. search needs)
     put-field-requires-2
-    slice-aggregate-put-bytes
+    (λ c. search needs)
     put-bytes-requires
-    same-length
+    (λ c. search needs)
     returns)

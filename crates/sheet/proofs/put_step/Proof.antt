@@ -9,12 +9,6 @@ use Rattle.text.proofs.Paste.{put-then}
 use Rattle.sheet.proofs.put_step.Statement.{statement}
 use Rattle.sheet.proofs.put_step.Tie as tie
 
-put-line-requires : tie.Need-put-line-requires
-put-line-requires c κs = search needs
-
-count-stored-requires : tie.Need-count-stored-requires
-count-stored-requires c κs = search needs
-
 slice-aggregate-put-words : tie.Need-slice-aggregate-put-words
 slice-aggregate-put-words c = sym (length-take-le _ _ (c .before .before .count-stored .ensures .1))
 
@@ -27,9 +21,6 @@ put-words-requires c κs = let entry = (c .before .before .before .before .befor
           (c .before .before .count-stored .result) (entry .buffer .now) (c .before .before .count-stored .ensures .1),
     )
 
-same-length : tie.Need-same-length
-same-length c = search needs
-
 returns : tie.Need-returns
 unfolding stepText
 returns c = put-then (c .before .before .before .before .before .before .before .before .put-line .ensures)
@@ -40,9 +31,8 @@ pub put-step-spec : {M : Type 1} → statement M
 put-step-spec =
     tie.close
     (tie.spec
-    put-line-requires
-    count-stored-requires
+    (λ c κs. search needs) (λ c κs. search needs)
     slice-aggregate-put-words
     put-words-requires
-    same-length
+    (λ c. search needs)
     returns)

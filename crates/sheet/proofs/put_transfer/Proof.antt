@@ -8,31 +8,19 @@ use Rattle.sheet.specs.Answers.{body}
 use Rattle.sheet.proofs.put_transfer.Statement.{statement}
 use Rattle.sheet.proofs.put_transfer.Tie as tie
 
-slice-aggregate-put-field : tie.Need-slice-aggregate-put-field
-slice-aggregate-put-field c = search needs
-
 put-field-requires : tie.Need-put-field-requires
 put-field-requires c κs = omega (arith, length-ten (c .before .before .before .args .p .end))
-
-slice-aggregate-put-field-2 : tie.Need-slice-aggregate-put-field-2
-slice-aggregate-put-field-2 c = search needs
 
 put-field-requires-2 : tie.Need-put-field-requires-2
 put-field-requires-2 c κs =
     let p = c .before .before .before .before .before .before .before .before .args .p in
     omega (arith, length-ten (p .words), after-field (bytes " end=") (p .end) (c .before .before .before .before .put-field .ensures))
 
-slice-aggregate-put-field-3 : tie.Need-slice-aggregate-put-field-3
-slice-aggregate-put-field-3 c = search needs
-
 put-field-requires-3 : tie.Need-put-field-requires-3
 put-field-requires-3 c κs =
     let p = c .before .before .before .before .before .before .before .before .before .before .before .before .before .args .p in
     let first = after-field (bytes " end=") (p .end) (c .before .before .before .before .before .before .before .before .before .put-field .ensures) in
     omega (arith, length-ten (p .cycles), first, after-field (bytes " words=") (p .words) (c .before .before .before .before .put-field2 .ensures))
-
-same-length : tie.Need-same-length
-same-length c = search needs
 
 returns : tie.Need-returns
 unfolding body
@@ -45,11 +33,11 @@ pub put-transfer-spec : {M : Type 1} → statement M
 put-transfer-spec =
     tie.close
     (tie.spec
-    slice-aggregate-put-field
+    (λ c. search needs)
     put-field-requires
-    slice-aggregate-put-field-2
+    (λ c. search needs)
     put-field-requires-2
-    slice-aggregate-put-field-3
+    (λ c. search needs)
     put-field-requires-3
-    same-length
+    (λ c. search needs)
     returns)

@@ -12,23 +12,11 @@ use Rattle.sheet.proofs.put_word.Tie as tie
 put-behind-requires : tie.Need-put-behind-requires
 put-behind-requires c κs = omega (arith, length-ten (c .before .before .args .w))
 
-slice-aggregate-put-bytes : tie.Need-slice-aggregate-put-bytes
-slice-aggregate-put-bytes c = search needs
-
-put-bytes-requires : tie.Need-put-bytes-requires
-put-bytes-requires c κs = search needs
-
-slice-aggregate-put-bytes-2 : tie.Need-slice-aggregate-put-bytes-2
-slice-aggregate-put-bytes-2 c = search needs
-
 put-bytes-requires-2 : tie.Need-put-bytes-requires-2
 put-bytes-requires-2 c κs =
     let number = c .before .before .before .before .before .before .before .before .before .put-behind .ensures in
     let keyed = behind-key number (c .before .before .before .before .put-bytes .ensures) refl (omega arith) in
     omega (arith, after-field (bytes "word=") (c .before .before .before .before .before .before .before .before .before .before .before .before .args .w) keyed)
-
-same-length : tie.Need-same-length
-same-length c = search needs
 
 returns : tie.Need-returns
 unfolding wordLine
@@ -42,9 +30,7 @@ put-word-spec =
     tie.close
     (tie.spec
     put-behind-requires
-    slice-aggregate-put-bytes
-    put-bytes-requires
-    slice-aggregate-put-bytes-2
+    (λ c. search needs) (λ c κs. search needs) (λ c. search needs)
     put-bytes-requires-2
-    same-length
+    (λ c. search needs)
     returns)

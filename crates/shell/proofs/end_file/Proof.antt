@@ -5,26 +5,8 @@ use borrow.Author.Needs.{needs}
 use Rattle.shell.proofs.end_file.Statement.{statement}
 use Rattle.shell.proofs.end_file.Tie as tie
 
-make-room-requires : tie.Need-make-room-requires
-make-room-requires c κs = search needs
-
-same-length : tie.Need-same-length
-same-length c = search needs
-
-same-length-2 : tie.Need-same-length-2
-same-length-2 c = search needs
-
 returns : tie.Need-returns
 returns c = (search needs, failed (c .before .before .make-room .result .ok) (c .if1 .taken))
-
-finish-requires : tie.Need-finish-requires
-finish-requires c κs = search needs
-
-same-length-3 : tie.Need-same-length-3
-same-length-3 c = search needs
-
-same-length-4 : tie.Need-same-length-4
-same-length-4 c = search needs
 
 returns-2 : tie.Need-returns-2
 returns-2 c = let room = (c .before .before .before .before .before .before .before .before .before .make-room) in
@@ -35,11 +17,7 @@ pub end-file-spec : {M : Type 1} → statement M
 end-file-spec =
     tie.close
     (tie.spec
-    make-room-requires
-    same-length
-    same-length-2
+    (λ c κs. search needs) (λ c. search needs) (λ c. search needs)
     returns
-    finish-requires
-    same-length-3
-    same-length-4
+    (λ c κs. search needs) (λ c. search needs) (λ c. search needs)
     returns-2)

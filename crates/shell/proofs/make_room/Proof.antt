@@ -9,18 +9,9 @@ use borrow.Author.Needs.{needs}
 use Rattle.shell.proofs.make_room.Statement.{statement}
 use Rattle.shell.proofs.make_room.Tie as tie
 
-sub-if1 : tie.Need-sub-if1
-sub-if1 c = search needs
-
 returns : tie.Need-returns
 returns c = let entry = (c .before .before .before .before .args) in
     (search needs, λ e. took-none (stateOf (entry .s) (entry .line .now) (entry .memory .now) (entry .out .now)))
-
-slice-aggregate-write-out : tie.Need-slice-aggregate-write-out
-slice-aggregate-write-out c = search needs
-
-write-out-requires : tie.Need-write-out-requires
-write-out-requires c κs = search needs
 
 returns-2 : tie.Need-returns-2
 returns-2 c = let entry = (c .before .before .before .before .before .before .args) in
@@ -28,4 +19,4 @@ returns-2 c = let entry = (c .before .before .before .before .before .before .ar
     (search needs, λ e. record { sent = sent; same = states refl refl refl refl refl (sym (append-nil sent)) })
 
 pub make-room-spec : {M : Type 1} → statement M
-make-room-spec = tie.close (tie.spec sub-if1 returns slice-aggregate-write-out write-out-requires returns-2)
+make-room-spec = tie.close (tie.spec (λ c. search needs) returns (λ c. search needs) (λ c κs. search needs) returns-2)

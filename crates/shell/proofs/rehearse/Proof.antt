@@ -10,35 +10,8 @@ use Rattle.shell.proofs.rehearse.Tie as tie
 take-file-requires : tie.Need-take-file-requires
 take-file-requires c κs = let pre = (c .before .before .before .before .before .before .before .before .before .before .pre) in (start-held (pre .0) (pre .2), pre .1)
 
-same-length : tie.Need-same-length
-same-length c = search needs
-
-same-length-2 : tie.Need-same-length-2
-same-length-2 c = search needs
-
-same-length-3 : tie.Need-same-length-3
-same-length-3 c = search needs
-
-same-length-4 : tie.Need-same-length-4
-same-length-4 c = search needs
-
 returns : tie.Need-returns
 returns c = failed (c .before .before .before .before .before .before .before .before .before .before .take-file .result .ok) (c .if1 .taken)
-
-flush-requires : tie.Need-flush-requires
-flush-requires c κs = search needs
-
-same-length-5 : tie.Need-same-length-5
-same-length-5 c = search needs
-
-same-length-6 : tie.Need-same-length-6
-same-length-6 c = search needs
-
-same-length-7 : tie.Need-same-length-7
-same-length-7 c = search needs
-
-same-length-8 : tie.Need-same-length-8
-same-length-8 c = search needs
 
 returns-2 : tie.Need-returns-2
 returns-2 c =
@@ -88,9 +61,6 @@ same-length-12 c =
 returns-3 : tie.Need-returns-3
 returns-3 c = failed (c .before .before .before .before .before .before .before .before .before .before .take-file2 .result .ok) (c .if3 .taken)
 
-flush-requires-2 : tie.Need-flush-requires-2
-flush-requires-2 c κs = search needs
-
 same-length-13 : tie.Need-same-length-13
 same-length-13 c =
     let far = c .before .before .before .before .before .before .before .before .before .before .before .before .before .before .before .before .before .before in
@@ -139,16 +109,9 @@ rehearse-spec =
     tie.close
     (tie.spec
     take-file-requires
-    same-length
-    same-length-2
-    same-length-3
-    same-length-4
+    (λ c. search needs) (λ c. search needs) (λ c. search needs) (λ c. search needs)
     returns
-    flush-requires
-    same-length-5
-    same-length-6
-    same-length-7
-    same-length-8
+    (λ c κs. search needs) (λ c. search needs) (λ c. search needs) (λ c. search needs) (λ c. search needs)
     returns-2
     take-file-requires-2
     same-length-9
@@ -156,7 +119,7 @@ rehearse-spec =
     same-length-11
     same-length-12
     returns-3
-    flush-requires-2
+    (λ c κs. search needs)
     same-length-13
     same-length-14
     same-length-15

@@ -6,48 +6,6 @@ use borrow.Author.Needs.{needs}
 use Rattle.shell.proofs.take_file.Statement.{statement}
 use Rattle.shell.proofs.take_file.Tie as tie
 
-slice-aggregate-open : tie.Need-slice-aggregate-open
-slice-aggregate-open c = search needs
-
-slice-aggregate-open-2 : tie.Need-slice-aggregate-open-2
-slice-aggregate-open-2 c = search needs
-
-open-requires : tie.Need-open-requires
-open-requires c κs = search needs
-
-end-file-requires : tie.Need-end-file-requires
-end-file-requires c κs = search needs
-
-same-length : tie.Need-same-length
-same-length c = search needs
-
-same-length-2 : tie.Need-same-length-2
-same-length-2 c = search needs
-
-same-length-3 : tie.Need-same-length-3
-same-length-3 c = search needs
-
-returns : tie.Need-returns
-returns c = search needs
-
-take-open-requires : tie.Need-take-open-requires
-take-open-requires c κs = search needs
-
-close-requires : tie.Need-close-requires
-close-requires c κs = search needs
-
-same-length-4 : tie.Need-same-length-4
-same-length-4 c = search needs
-
-same-length-5 : tie.Need-same-length-5
-same-length-5 c = search needs
-
-same-length-6 : tie.Need-same-length-6
-same-length-6 c = search needs
-
-same-length-7 : tie.Need-same-length-7
-same-length-7 c = search needs
-
 returns-2 : tie.Need-returns-2
 returns-2 c = let read = (c .before .before .before .before .before .before .before .before .before .before .before .take-open) in
     (read .ensures .0, failed (read .result .ok) (c .if2 .taken))
@@ -58,18 +16,6 @@ end-file-requires-2 c κs =
     let pre = (far .before .before .before .before .before .before .before .before .before .before .pre) in
     let read = (c .before .before .before .before .before .before .before .before .before .before .before .before .before .before .take-open) in
     (read .ensures .0, omega (arith, pre .1, read .kept))
-
-same-length-8 : tie.Need-same-length-8
-same-length-8 c = search needs
-
-same-length-9 : tie.Need-same-length-9
-same-length-9 c = search needs
-
-same-length-10 : tie.Need-same-length-10
-same-length-10 c = search needs
-
-same-length-11 : tie.Need-same-length-11
-same-length-11 c = search needs
 
 returns-3 : tie.Need-returns-3
 returns-3 c =
@@ -83,24 +29,9 @@ pub take-file-spec : {M : Type 1} → statement M
 take-file-spec =
     tie.close
     (tie.spec
-    slice-aggregate-open
-    slice-aggregate-open-2
-    open-requires
-    end-file-requires
-    same-length
-    same-length-2
-    same-length-3
-    returns
-    take-open-requires
-    close-requires
-    same-length-4
-    same-length-5
-    same-length-6
-    same-length-7
+    (λ c. search needs) (λ c. search needs) (λ c κs. search needs) (λ c κs. search needs) (λ c. search needs) (λ c. search needs) (λ c. search needs)
+    (λ c. search needs) (λ c κs. search needs) (λ c κs. search needs) (λ c. search needs) (λ c. search needs) (λ c. search needs) (λ c. search needs)
     returns-2
     end-file-requires-2
-    same-length-8
-    same-length-9
-    same-length-10
-    same-length-11
+    (λ c. search needs) (λ c. search needs) (λ c. search needs) (λ c. search needs)
     returns-3)

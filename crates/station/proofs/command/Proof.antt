@@ -13,12 +13,6 @@ use Rattle.acceptance.specs.Classes.{classOf, admits}
 use Rattle.station.proofs.command.Statement.{statement}
 use Rattle.station.proofs.command.Tie as tie
 
-accepts-requires : tie.Need-accepts-requires
-accepts-requires c κs = search needs
-
-same-length : tie.Need-same-length
-same-length c = search needs
-
 returns : tie.Need-returns
 returns c = admitted _ (c .before .before .before .before .pre .0) _ _ _ .outside (sym (c .before .accepts .ensures) ∙ not-true _ (c .if1 .taken))
 
@@ -166,71 +160,41 @@ test-status-requires c κs =
     let h = rw (c .before .match .keys18) at (sym (c .before .before .before .accepts .ensures) ∙ not-false _ (c .before .before .if1 .left)) in
     (fit, (e .pre .1 .0, below-s _ fit _ h))
 
-same-length-2 : tie.Need-same-length-2
-same-length-2 c = search needs
-
 returns-2 : tie.Need-returns-2
 unfolding commandOf functionsOf
 returns-2 c = rw (c .before .before .match .keys1) (c .read .ensures)
-
-same-length-3 : tie.Need-same-length-3
-same-length-3 c = search needs
 
 returns-3 : tie.Need-returns-3
 unfolding commandOf functionsOf
 returns-3 c = rw (c .before .before .match .keys2) (c .read2 .ensures)
 
-same-length-4 : tie.Need-same-length-4
-same-length-4 c = search needs
-
 returns-4 : tie.Need-returns-4
 unfolding commandOf functionsOf
 returns-4 c = rw (c .before .before .before .before .match .keys3) (c .before .before .read-and-clear .ensures)
-
-same-length-5 : tie.Need-same-length-5
-same-length-5 c = search needs
 
 returns-5 : tie.Need-returns-5
 unfolding commandOf functionsOf
 returns-5 c = rw (c .before .before .match .keys4) (c .read-complement .ensures)
 
-same-length-6 : tie.Need-same-length-6
-same-length-6 c = search needs
-
 returns-6 : tie.Need-returns-6
 unfolding commandOf functionsOf
 returns-6 c = rw (c .before .before .match .keys5) (c .test-lam .ensures)
-
-same-length-7 : tie.Need-same-length-7
-same-length-7 c = search needs
 
 returns-7 : tie.Need-returns-7
 unfolding commandOf functionsOf
 returns-7 c = rw (c .before .before .before .before .match .keys6) (c .before .before .clear .ensures)
 
-same-length-8 : tie.Need-same-length-8
-same-length-8 c = search needs
-
 returns-8 : tie.Need-returns-8
 unfolding commandOf functionsOf
 returns-8 c = rw (c .before .before .before .before .match .keys7) (c .before .before .clear-lam .ensures)
-
-same-length-9 : tie.Need-same-length-9
-same-length-9 c = search needs
 
 returns-9 : tie.Need-returns-9
 unfolding commandOf functionsOf
 returns-9 c = rw (c .before .before .before .before .match .keys8) (c .before .before .clear2 .ensures)
 
-same-length-10 : tie.Need-same-length-10
-same-length-10 c = search needs
-
 returns-10 : tie.Need-returns-10
 unfolding commandOf functionsOf
 returns-10 c = rw (c .before .before .before .before .match .keys9) (c .before .before .overwrite .ensures)
-
-same-length-11 : tie.Need-same-length-11
-same-length-11 c = search needs
 
 returns-11 : tie.Need-returns-11
 unfolding commandOf functionsOf classOf
@@ -240,15 +204,9 @@ returns-11 c =
     let h = rw (c .before .before .before .before .match .keys10) at (sym (l .before .accepts .ensures) ∙ not-false _ (l .if1 .left)) in
     rw (c .before .before .before .before .match .keys10) (rw (at-thirteen _ fit _ h) (c .before .before .overwrite2 .ensures))
 
-same-length-12 : tie.Need-same-length-12
-same-length-12 c = search needs
-
 returns-12 : tie.Need-returns-12
 unfolding commandOf functionsOf
 returns-12 c = rw (c .before .before .before .before .match .keys11) (c .before .before .selective-set .ensures)
-
-same-length-13 : tie.Need-same-length-13
-same-length-13 c = search needs
 
 returns-13 : tie.Need-returns-13
 unfolding commandOf functionsOf classOf
@@ -258,64 +216,37 @@ returns-13 c =
     let h = rw (c .before .before .before .before .match .keys12) at (sym (l .before .accepts .ensures) ∙ not-false _ (l .if1 .left)) in
     rw (c .before .before .before .before .match .keys12) (rw (at-thirteen _ fit _ h) (c .before .before .selective-set2 .ensures))
 
-same-length-14 : tie.Need-same-length-14
-same-length-14 c = search needs
-
 returns-14 : tie.Need-returns-14
 unfolding commandOf functionsOf
 returns-14 c = rw (c .before .before .before .before .match .keys13) (c .before .before .selective-clear .ensures)
-
-same-length-15 : tie.Need-same-length-15
-same-length-15 c = search needs
 
 returns-15 : tie.Need-returns-15
 unfolding commandOf functionsOf
 returns-15 c = rw (c .before .before .before .before .match .keys14) (c .before .before .selective-clear2 .ensures)
 
-same-length-16 : tie.Need-same-length-16
-same-length-16 c = search needs
-
 returns-16 : tie.Need-returns-16
 unfolding commandOf functionsOf
 returns-16 c = rw (c .before .before .before .before .match .keys15) (c .before .before .disable .ensures)
-
-same-length-17 : tie.Need-same-length-17
-same-length-17 c = search needs
 
 returns-17 : tie.Need-returns-17
 unfolding commandOf functionsOf
 returns-17 c = rw (c .before .before .before .before .match .keys16) (c .before .before .execute .ensures)
 
-same-length-18 : tie.Need-same-length-18
-same-length-18 c = search needs
-
 returns-18 : tie.Need-returns-18
 unfolding commandOf functionsOf
 returns-18 c = rw (c .before .before .before .before .match .keys17) (c .before .before .enable .ensures)
-
-same-length-19 : tie.Need-same-length-19
-same-length-19 c = search needs
 
 returns-19 : tie.Need-returns-19
 unfolding commandOf functionsOf
 returns-19 c = rw (c .before .before .match .keys18) (c .test-status .ensures)
 
-same-length-20 : tie.Need-same-length-20
-same-length-20 c = search needs
-
 returns-20 : tie.Need-returns-20
 unfolding functionsOf
 returns-20 c = command-else _ _ _ _ (c .before .match .rest .0)
 
-same-length-21 : tie.Need-same-length-21
-same-length-21 c = search needs
-
 returns-21 : tie.Need-returns-21
 unfolding commandOf functionsOf
 returns-21 c = ⊎-elim (λ e. rw e) (λ e. rw e) (c .match .keys19)
-
-same-length-22 : tie.Need-same-length-22
-same-length-22 c = search needs
 
 returns-22 : tie.Need-returns-22
 unfolding functionsOf
@@ -325,8 +256,7 @@ pub command-spec : {M : Type 1} → statement M
 command-spec =
     tie.close
     (tie.spec
-    accepts-requires
-    same-length
+    (λ c κs. search needs) (λ c. search needs)
     returns
     read-requires
     read-requires-2
@@ -346,45 +276,45 @@ command-spec =
     execute-requires
     enable-requires
     test-status-requires
-    same-length-2
+    (λ c. search needs)
     returns-2
-    same-length-3
+    (λ c. search needs)
     returns-3
-    same-length-4
+    (λ c. search needs)
     returns-4
-    same-length-5
+    (λ c. search needs)
     returns-5
-    same-length-6
+    (λ c. search needs)
     returns-6
-    same-length-7
+    (λ c. search needs)
     returns-7
-    same-length-8
+    (λ c. search needs)
     returns-8
-    same-length-9
+    (λ c. search needs)
     returns-9
-    same-length-10
+    (λ c. search needs)
     returns-10
-    same-length-11
+    (λ c. search needs)
     returns-11
-    same-length-12
+    (λ c. search needs)
     returns-12
-    same-length-13
+    (λ c. search needs)
     returns-13
-    same-length-14
+    (λ c. search needs)
     returns-14
-    same-length-15
+    (λ c. search needs)
     returns-15
-    same-length-16
+    (λ c. search needs)
     returns-16
-    same-length-17
+    (λ c. search needs)
     returns-17
-    same-length-18
+    (λ c. search needs)
     returns-18
-    same-length-19
+    (λ c. search needs)
     returns-19
-    same-length-20
+    (λ c. search needs)
     returns-20
-    same-length-21
+    (λ c. search needs)
     returns-21
-    same-length-22
+    (λ c. search needs)
     returns-22)

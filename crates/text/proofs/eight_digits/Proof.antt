@@ -6,24 +6,9 @@ use Rattle.text.proofs.EightDigits.{two, high, four, tops, eight, two-f
 use Rattle.text.proofs.eight_digits.Statement.{statement}
 use Rattle.text.proofs.eight_digits.Tie as tie
 
-cast-two : tie.Need-cast-two
-cast-two c = search needs
-
-cast-two-2 : tie.Need-cast-two-2
-cast-two-2 c = search needs
-
-add-two : tie.Need-add-two
-add-two c = search needs
-
 mul-hundreds : tie.Need-mul-hundreds
 unfolding two
 mul-hundreds c = record { fits = two-fits (c .args .n) (c .pre) }
-
-add-high : tie.Need-add-high
-add-high c = search needs
-
-mul-four : tie.Need-mul-four
-mul-four c = search needs
 
 sub-four : tie.Need-sub-four
 unfolding two high
@@ -36,12 +21,6 @@ add-four c = record { fits = four-fits (c .args .n) (c .pre) }
 mul-tens : tie.Need-mul-tens
 unfolding two high four
 mul-tens c = record { fits = tens-fit (c .args .n) (c .pre) }
-
-add-tops : tie.Need-add-tops
-add-tops c = search needs
-
-add-tops-2 : tie.Need-add-tops-2
-add-tops-2 c = search needs
 
 add-tops-3 : tie.Need-add-tops-3
 unfolding two high four tops
@@ -67,17 +46,13 @@ pub eight-digits-spec : {M : Type 1} → statement M
 eight-digits-spec =
     tie.close
     (tie.spec
-    cast-two
-    cast-two-2
-    add-two
+    (λ c. search needs) (λ c. search needs) (λ c. search needs)
     mul-hundreds
-    add-high
-    mul-four
+    (λ c. search needs) (λ c. search needs)
     sub-four
     add-four
     mul-tens
-    add-tops
-    add-tops-2
+    (λ c. search needs) (λ c. search needs)
     add-tops-3
     mul-result
     sub-result

@@ -8,37 +8,16 @@ use Rattle.text.proofs.Paste.{put-digit, put-then}
 use Rattle.text.proofs.put_field.Statement.{statement}
 use Rattle.text.proofs.put_field.Tie as tie
 
-put-bytes-requires : tie.Need-put-bytes-requires
-put-bytes-requires c κs = search needs
-
-cast-out : tie.Need-cast-out
-cast-out c = search needs
-
-add-out : tie.Need-add-out
-add-out c = search needs
-
 slice-write-out : tie.Need-slice-write-out
 slice-write-out c =
     let n = c .before .before .before .before .before .before .before .args .n in
     omega (arith, ap length (decimal-one n (c .if1 .taken)))
-
-add-result : tie.Need-add-result
-add-result c = search needs
-
-same-length : tie.Need-same-length
-same-length c = search needs
 
 returns : tie.Need-returns
 returns c =
     let n = c .before .before .before .before .before .before .before .args .n in
     let small = c .if1 .taken in
     put-then (c .before .before .before .put-bytes .ensures) (put-digit _ _ n small (omega (arith, ap length (decimal-one n small)))) (omega arith)
-
-put-decimal-requires : tie.Need-put-decimal-requires
-put-decimal-requires c κs = search needs
-
-same-length-2 : tie.Need-same-length-2
-same-length-2 c = search needs
 
 returns-2 : tie.Need-returns-2
 returns-2 c =
@@ -51,13 +30,9 @@ pub put-field-spec : {M : Type 1} → statement M
 put-field-spec =
     tie.close
     (tie.spec
-    put-bytes-requires
-    cast-out
-    add-out
+    (λ c κs. search needs) (λ c. search needs) (λ c. search needs)
     slice-write-out
-    add-result
-    same-length
+    (λ c. search needs) (λ c. search needs)
     returns
-    put-decimal-requires
-    same-length-2
+    (λ c κs. search needs) (λ c. search needs)
     returns-2)

@@ -5,27 +5,13 @@ use Rattle.text.proofs.Decimal.{length-ten}
 use Rattle.text_check.proofs.show_field.Statement.{statement}
 use Rattle.text_check.proofs.show_field.Tie as tie
 
-slice-aggregate-put-field : tie.Need-slice-aggregate-put-field
-slice-aggregate-put-field c = search needs
-
 put-field-requires : tie.Need-put-field-requires
 put-field-requires c κs = omega (arith, length-ten (c .before .before .args .n))
-
-slice-aggregate-show : tie.Need-slice-aggregate-show
-slice-aggregate-show c = search needs
-
-show-requires : tie.Need-show-requires
-show-requires c κs = search needs
-
-returns : tie.Need-returns
-returns c = search needs
 
 pub show-field-spec : {M : Type 1} → statement M
 show-field-spec =
     tie.close
     (tie.spec
-    slice-aggregate-put-field
+    (λ c. search needs)
     put-field-requires
-    slice-aggregate-show
-    show-requires
-    returns)
+    (λ c. search needs) (λ c κs. search needs) (λ c. search needs))

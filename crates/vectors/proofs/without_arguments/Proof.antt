@@ -5,33 +5,6 @@ use borrow.Author.Needs.{needs}
 use Rattle.vectors.proofs.without_arguments.Statement.{statement}
 use Rattle.vectors.proofs.without_arguments.Tie as tie
 
-slice-aggregate-write-all : tie.Need-slice-aggregate-write-all
-slice-aggregate-write-all c = search needs
-
-write-all-requires : tie.Need-write-all-requires
-write-all-requires c κs = search needs
-
-buffer-requires : tie.Need-buffer-requires
-buffer-requires c κs = search needs
-
-buffer-requires-2 : tie.Need-buffer-requires-2
-buffer-requires-2 c κs = search needs
-
-slice-aggregate-files-named : tie.Need-slice-aggregate-files-named
-slice-aggregate-files-named c = search needs
-
-slice-aggregate-files-named-2 : tie.Need-slice-aggregate-files-named-2
-slice-aggregate-files-named-2 c = search needs
-
-slice-aggregate-files-named-3 : tie.Need-slice-aggregate-files-named-3
-slice-aggregate-files-named-3 c = search needs
-
-slice-aggregate-files-named-4 : tie.Need-slice-aggregate-files-named-4
-slice-aggregate-files-named-4 c = search needs
-
-files-named-requires : tie.Need-files-named-requires
-files-named-requires c κs = search needs
-
 array-share-prefix-crate-path : tie.Need-array-share-prefix-crate-path
 array-share-prefix-crate-path c = (c .before .before .before .files-named .ensures) (c .if1 .taken) .first-within
 
@@ -46,32 +19,14 @@ slice-aggregate-rehearse-2 : tie.Need-slice-aggregate-rehearse-2
 slice-aggregate-rehearse-2 c = let named = (c .before .before .before .before .before .files-named) in
     sym (length-take-le (named .result .second) (named .last .1 .1 .1 .0) (named .ensures (c .before .before .if1 .taken) .second-within))
 
-rehearse-requires : tie.Need-rehearse-requires
-rehearse-requires c κs = search needs
-
-returns : tie.Need-returns
-returns c = search needs
-
-returns-2 : tie.Need-returns-2
-returns-2 c = search needs
-
 pub without-arguments-spec : {M : Type 1} → statement M
 without-arguments-spec =
     tie.close
     (tie.spec
-    slice-aggregate-write-all
-    write-all-requires
-    buffer-requires
-    buffer-requires-2
-    slice-aggregate-files-named
-    slice-aggregate-files-named-2
-    slice-aggregate-files-named-3
-    slice-aggregate-files-named-4
-    files-named-requires
+    (λ c. search needs) (λ c κs. search needs) (λ c κs. search needs) (λ c κs. search needs) (λ c. search needs) (λ c. search needs)
+    (λ c. search needs) (λ c. search needs) (λ c κs. search needs)
     array-share-prefix-crate-path
     slice-aggregate-rehearse
     array-share-prefix-run-path
     slice-aggregate-rehearse-2
-    rehearse-requires
-    returns
-    returns-2)
+    (λ c κs. search needs) (λ c. search needs) (λ c. search needs))

@@ -12,14 +12,8 @@ returns c = stands-past _ _ _ _ (inl (c .if1 .taken))
 returns-2 : tie.Need-returns-2
 returns-2 c = stands-past _ _ _ _ (inr (c .if2 .taken))
 
-slice-aggregate-seek : tie.Need-slice-aggregate-seek
-slice-aggregate-seek c = search needs
-
-seek-requires : tie.Need-seek-requires
-seek-requires c κs = search needs
-
 returns-3 : tie.Need-returns-3
 returns-3 c = (c .seek .ensures)
 
 pub find-spec : {M : Type 1} → statement M
-find-spec = tie.close (tie.spec returns returns-2 slice-aggregate-seek seek-requires returns-3)
+find-spec = tie.close (tie.spec returns returns-2 (λ c. search needs) (λ c κs. search needs) returns-3)

@@ -5,15 +5,6 @@ use Rattle.verdict.proofs.CountedLaws.{judged-good, judged-bad}
 use Rattle.verdict.proofs.judged.Statement.{statement}
 use Rattle.verdict.proofs.judged.Tie as tie
 
-judge-requires : tie.Need-judge-requires
-judge-requires c κs = search needs
-
-enum-told : tie.Need-enum-told
-enum-told c = search needs
-
-enum-known-verdict : tie.Need-enum-known-verdict
-enum-known-verdict c = search needs
-
 returns : tie.Need-returns
 returns c = judged-good _ _ _ (c .before .before .before .before .pre) (c .before .before .judge .ensures) (c .enum-told .given .1)
 
@@ -22,4 +13,4 @@ returns-2 c = judged-bad _ _ _ _ (c .before .before .before .before .before .pre
     (c .before .verdict .given .1)
 
 pub judged-spec : {M : Type 1} → statement M
-judged-spec = tie.close (tie.spec judge-requires enum-told enum-known-verdict returns returns-2)
+judged-spec = tie.close (tie.spec (λ c κs. search needs) (λ c. search needs) (λ c. search needs) returns returns-2)

@@ -6,33 +6,6 @@ use borrow.Author.Needs.{needs}
 use Rattle.verdict.proofs.same_reading.Statement.{statement}
 use Rattle.verdict.proofs.same_reading.Tie as tie
 
-enum-known-x : tie.Need-enum-known-x
-enum-known-x c = search needs
-
-enum-known-y : tie.Need-enum-known-y
-enum-known-y c = search needs
-
-same-step-requires : tie.Need-same-step-requires
-same-step-requires c κs = search needs
-
-enum-told : tie.Need-enum-told
-enum-told c = search needs
-
-enum-known-x-2 : tie.Need-enum-known-x-2
-enum-known-x-2 c = search needs
-
-enum-told-2 : tie.Need-enum-told-2
-enum-told-2 c = search needs
-
-enum-known-y-2 : tie.Need-enum-known-y-2
-enum-known-y-2 c = search needs
-
-refusal-number-requires : tie.Need-refusal-number-requires
-refusal-number-requires c κs = search needs
-
-refusal-number-requires-2 : tie.Need-refusal-number-requires-2
-refusal-number-requires-2 c κs = search needs
-
 returns : tie.Need-returns
 returns c = good-told _ _ _ _ _ (c .before .before .before .before .before .x .given .1) (c .before .before .y .given .1) (c .same-step .ensures)
 
@@ -50,15 +23,8 @@ pub same-reading-spec : {M : Type 1} → statement M
 same-reading-spec =
     tie.close
     (tie.spec
-    enum-known-x
-    enum-known-y
-    same-step-requires
-    enum-told
-    enum-known-x-2
-    enum-told-2
-    enum-known-y-2
-    refusal-number-requires
-    refusal-number-requires-2
+    (λ c. search needs) (λ c. search needs) (λ c κs. search needs) (λ c. search needs) (λ c. search needs) (λ c. search needs) (λ c. search needs)
+    (λ c κs. search needs) (λ c κs. search needs)
     returns
     returns-2
     returns-3

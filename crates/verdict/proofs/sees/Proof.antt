@@ -9,17 +9,8 @@ use Rattle.verdict.proofs.CountedLaws.{number-small, see-refused}
 use Rattle.verdict.proofs.sees.Statement.{statement}
 use Rattle.verdict.proofs.sees.Tie as tie
 
-enum-known-reading : tie.Need-enum-known-reading
-enum-known-reading c = search needs
-
 sees-good-requires : tie.Need-sees-good-requires
 sees-good-requires c κs = subst (λ (t : Reading). counted t ≡ t) (c .before .reading .given .1) (c .before .before .before .pre)
-
-enum-known-reading-2 : tie.Need-enum-known-reading-2
-enum-known-reading-2 c = search needs
-
-refusal-number-requires : tie.Need-refusal-number-requires
-refusal-number-requires c κs = search needs
 
 add-result : tie.Need-add-result
 add-result c = omega (arith, number-small (c .before .before .reading2 .given .0 .0) _ (c .refusal-number .ensures))
@@ -34,10 +25,9 @@ pub sees-spec : {M : Type 1} → statement M
 sees-spec =
     tie.close
     (tie.spec
-    enum-known-reading
+    (λ c. search needs)
     sees-good-requires
-    enum-known-reading-2
-    refusal-number-requires
+    (λ c. search needs) (λ c κs. search needs)
     add-result
     returns
     returns-2)

@@ -6,15 +6,6 @@ use borrow.Author.Needs.{needs}
 use Rattle.verdict.proofs.sees_at.Statement.{statement}
 use Rattle.verdict.proofs.sees_at.Tie as tie
 
-touches-at-requires : tie.Need-touches-at-requires
-touches-at-requires c κs = search needs
-
-returns : tie.Need-returns
-returns c = search needs
-
-step-at-requires : tie.Need-step-at-requires
-step-at-requires c κs = search needs
-
 sees-requires : tie.Need-sees-requires
 sees-requires c κs = step-counts (c .before .before .before .before .args .words .now) (c .before .before .before .before .args .i) _ (c .step-at .ensures)
 
@@ -23,4 +14,4 @@ returns-2 c = (c .sees .ensures) ∙ ap (see (c .before .before .before .before 
 
 pub sees-at-spec : {M : Type 1} → statement M
 sees-at-spec =
-    tie.close (tie.spec touches-at-requires returns step-at-requires sees-requires returns-2)
+    tie.close (tie.spec (λ c κs. search needs) (λ c. search needs) (λ c κs. search needs) sees-requires returns-2)

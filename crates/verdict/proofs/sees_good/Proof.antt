@@ -9,11 +9,8 @@ use Rattle.verdict.proofs.sees_good.Tie as tie
 returns : tie.Need-returns
 returns c = sym (see-good-high _ _ (c .before .pre) (c .if1 .taken))
 
-reaches-requires : tie.Need-reaches-requires
-reaches-requires c κs = search needs
-
 returns-2 : tie.Need-returns-2
 returns-2 c = (c .reaches .ensures) ∙ sym (see-good _ _ (c .before .before .pre) (c .before .if1 .left))
 
 pub sees-good-spec : {M : Type 1} → statement M
-sees-good-spec = tie.close (tie.spec returns reaches-requires returns-2)
+sees-good-spec = tie.close (tie.spec returns (λ c κs. search needs) returns-2)

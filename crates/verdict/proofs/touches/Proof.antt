@@ -5,22 +5,10 @@ use borrow.Author.Needs.{needs}
 use Rattle.verdict.proofs.touches.Statement.{statement}
 use Rattle.verdict.proofs.touches.Tie as tie
 
-reaches-requires : tie.Need-reaches-requires
-reaches-requires c κs = search needs
-
 returns : tie.Need-returns
 returns c = let entry = (c .before .before .before .args) in
     let reaches = (c .before .reaches) in
     see-unreached (entry .step) (entry .k) (reaches .result) (c .before .before .before .pre .1) (reaches .ensures) (not-true (reaches .result) (c .if1 .taken))
-
-judge-requires : tie.Need-judge-requires
-judge-requires c κs = search needs
-
-enum-told : tie.Need-enum-told
-enum-told c = search needs
-
-enum-told-2 : tie.Need-enum-told-2
-enum-told-2 c = search needs
 
 returns-2 : tie.Need-returns-2
 returns-2 c = let entry = (c .before .before .before .before .before .before .args) in
@@ -39,4 +27,4 @@ returns-3 c = let entry = (c .before .before .before .before .before .before .ar
 pub touches-spec : {M : Type 1} → statement M
 touches-spec =
     tie.close
-    (tie.spec reaches-requires returns judge-requires enum-told enum-told-2 returns-2 returns-3)
+    (tie.spec (λ c κs. search needs) returns (λ c κs. search needs) (λ c. search needs) (λ c. search needs) returns-2 returns-3)

@@ -11,14 +11,5 @@ returns c = λ w. absurd (omega (arith, w .0, (c .if1 .taken)))
 returns-2 : tie.Need-returns-2
 returns-2 c = λ w. absurd (omega (arith, w .1, (c .if2 .taken)))
 
-slice-aggregate-walk : tie.Need-slice-aggregate-walk
-slice-aggregate-walk c = search needs
-
-walk-requires : tie.Need-walk-requires
-walk-requires c κs = search needs
-
-returns-3 : tie.Need-returns-3
-returns-3 c = search needs
-
 pub watch-spec : {M : Type 1} → statement M
-watch-spec = tie.close (tie.spec returns returns-2 slice-aggregate-walk walk-requires returns-3)
+watch-spec = tie.close (tie.spec returns returns-2 (λ c. search needs) (λ c κs. search needs) (λ c. search needs))

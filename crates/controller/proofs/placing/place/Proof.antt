@@ -4,27 +4,12 @@ use Rattle.controller.proofs.PlacingLaws.{module-good, module-refused, 
 use Rattle.controller.proofs.placing.place.Statement.{statement}
 use Rattle.controller.proofs.placing.place.Tie as tie
 
-covered-requires : tie.Need-covered-requires
-covered-requires c κs = search needs
-
-judge-module-requires : tie.Need-judge-module-requires
-judge-module-requires c κs = search needs
-
-enum-known-verdict : tie.Need-enum-known-verdict
-enum-known-verdict c = search needs
-
-enum-told : tie.Need-enum-told
-enum-told c = search needs
-
 put-module-requires : tie.Need-put-module-requires
 put-module-requires c κs =
     let judged = c .before .before .before in (
       judged .before .before .before .before .pre,
       module-good _ _ _ _ (judged .judge-module .ensures) (c .before .enum-told .given .1),
     )
-
-same-length : tie.Need-same-length
-same-length c = search needs
 
 returns : tie.Need-returns
 returns c =
@@ -33,9 +18,6 @@ returns c =
       module-refused _ _ _ _ verdict _ (c .before .verdict .given .1),
       judged .before .before .before .before .pre,
     )
-
-same-length-2 : tie.Need-same-length-2
-same-length-2 c = search needs
 
 returns-2 : tie.Need-returns-2
 returns-2 c =
@@ -51,12 +33,9 @@ pub place-spec : {M : Type 1} → statement M
 place-spec =
     tie.close
     (tie.spec
-    covered-requires
-    judge-module-requires
-    enum-known-verdict
-    enum-told
+    (λ c κs. search needs) (λ c κs. search needs) (λ c. search needs) (λ c. search needs)
     put-module-requires
-    same-length
+    (λ c. search needs)
     returns
-    same-length-2
+    (λ c. search needs)
     returns-2)

@@ -5,26 +5,11 @@ use borrow.Author.Needs.{needs}
 use Rattle.dataway.proofs.address.command_where.Statement.{statement}
 use Rattle.dataway.proofs.address.command_where.Tie as tie
 
-sub-bit : tie.Need-sub-bit
-sub-bit c = search needs
-
-bit-requires : tie.Need-bit-requires
-bit-requires c κs = search needs
-
 returns : tie.Need-returns
 returns c =
     let at-bit = c .before in
     let at-start = at-bit .before .before in
     where-off _ _ _ _ _ _ _ _ (at-start .pre .0 .size) (at-start .pre .1 .1) (λ e. c .if1 .taken (at-bit .bit .ensures ∙ e))
-
-command-requires : tie.Need-command-requires
-command-requires c κs = search needs
-
-join-requires : tie.Need-join-requires
-join-requires c κs = search needs
-
-same-length : tie.Need-same-length
-same-length c = search needs
 
 returns-2 : tie.Need-returns-2
 returns-2 c =
@@ -37,4 +22,4 @@ returns-2 c =
 pub command-where-spec : {M : Type 1} → statement M
 command-where-spec =
     tie.close
-    (tie.spec sub-bit bit-requires returns command-requires join-requires same-length returns-2)
+    (tie.spec (λ c. search needs) (λ c κs. search needs) returns (λ c κs. search needs) (λ c κs. search needs) (λ c. search needs) returns-2)

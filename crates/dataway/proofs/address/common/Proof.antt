@@ -9,21 +9,9 @@ returns : tie.Need-returns
 unfolding commonOf
 returns c = simp (ne-eqb _ _ (c .if1 .taken))
 
-initialize-requires : tie.Need-initialize-requires
-initialize-requires c κs = search needs
-
-clear-requires : tie.Need-clear-requires
-clear-requires c κs = search needs
-
-same-length : tie.Need-same-length
-same-length c = search needs
-
 returns-2 : tie.Need-returns-2
 unfolding commonOf
 returns-2 c = simp ((c .before .before .before .before .before .if1 .left), (c .before .before .before .before .match .keys1), (c .before .before .initialize .ensures))
-
-same-length-2 : tie.Need-same-length-2
-same-length-2 c = search needs
 
 returns-3 : tie.Need-returns-3
 unfolding commonOf
@@ -38,10 +26,8 @@ common-spec =
     tie.close
     (tie.spec
     returns
-    initialize-requires
-    clear-requires
-    same-length
+    (λ c κs. search needs) (λ c κs. search needs) (λ c. search needs)
     returns-2
-    same-length-2
+    (λ c. search needs)
     returns-3
     returns-4)

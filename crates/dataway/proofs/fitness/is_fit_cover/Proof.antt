@@ -8,30 +8,6 @@ use borrow.Author.Needs.{needs}
 use Rattle.dataway.proofs.fitness.is_fit_cover.Statement.{statement}
 use Rattle.dataway.proofs.fitness.is_fit_cover.Tie as tie
 
-mul-left : tie.Need-mul-left
-mul-left c = search needs
-
-add-own : tie.Need-add-own
-add-own c = search needs
-
-add-covered : tie.Need-add-covered
-add-covered c = search needs
-
-mul-covered : tie.Need-mul-covered
-mul-covered c = search needs
-
-shared-slice-read-covered : tie.Need-shared-slice-read-covered
-shared-slice-read-covered c = search needs
-
-add-if1 : tie.Need-add-if1
-add-if1 c = search needs
-
-mul-if1 : tie.Need-mul-if1
-mul-if1 c = search needs
-
-shared-slice-read-if1 : tie.Need-shared-slice-read-if1
-shared-slice-read-if1 c = search needs
-
 next : (i : ℕ) → 32 * (1 + i) + 7 ≡ 32 * i + 32 + 7
 next i = omega arith
 
@@ -47,13 +23,7 @@ pub is-fit-cover-spec : {M : Type 1} → statement M
 is-fit-cover-spec =
     tie.close
     (tie.spec
-    mul-left
-    add-own
-    add-covered
-    mul-covered
-    shared-slice-read-covered
-    add-if1
-    mul-if1
-    shared-slice-read-if1
+    (λ c. search needs) (λ c. search needs) (λ c. search needs) (λ c. search needs) (λ c. search needs) (λ c. search needs) (λ c. search needs)
+    (λ c. search needs)
     returns
     returns-2)

@@ -12,22 +12,13 @@ returns : tie.Need-returns
 unfolding isFitCrate crateTests
 returns c = simp (ne-eqb _ _ (c .if1 .taken))
 
-shared-slice-read-if2 : tie.Need-shared-slice-read-if2
-shared-slice-read-if2 c = search needs
-
 returns-2 : tie.Need-returns-2
 unfolding isFitCrate crateTests
 returns-2 c = simp ((c .before .before .if1 .left), le-ltb _ _ (c .if2 .taken))
 
-shared-slice-read-if3 : tie.Need-shared-slice-read-if3
-shared-slice-read-if3 c = search needs
-
 returns-3 : tie.Need-returns-3
 unfolding isFitCrate crateTests
 returns-3 c = simp ((c .before .before .before .before .if1 .left), lt-ltb _ _ (c .before .before .if2 .left), le-ltb _ _ (c .if3 .taken))
-
-is-rest-zero-requires : tie.Need-is-rest-zero-requires
-is-rest-zero-requires c κs = search needs
 
 returns-4 : tie.Need-returns-4
 unfolding isFitCrate crateTests
@@ -39,9 +30,6 @@ returns-4 c =
       lt-ltb _ _ (at-snr .if3 .left),
       sym (c .before .is-rest-zero .ensures) ∙ not-true _ (c .if4 .taken),
     )
-
-are-stations-fit-requires : tie.Need-are-stations-fit-requires
-are-stations-fit-requires c κs = search needs
 
 returns-5 : tie.Need-returns-5
 unfolding isFitCrate crateTests
@@ -55,9 +43,6 @@ returns-5 c =
       sym (at-rest .before .is-rest-zero .ensures) ∙ not-false _ (at-rest .if4 .left),
       sym (c .before .are-stations-fit .ensures) ∙ not-true _ (c .if5 .taken),
     )
-
-are-covers-fit-requires : tie.Need-are-covers-fit-requires
-are-covers-fit-requires c κs = search needs
 
 returns-6 : tie.Need-returns-6
 unfolding isFitCrate crateTests
@@ -73,18 +58,6 @@ returns-6 c =
       sym (at-stations .before .are-stations-fit .ensures) ∙ not-false _ (at-stations .if5 .left),
       sym (c .before .are-covers-fit .ensures) ∙ not-true _ (c .if6 .taken),
     )
-
-mul-result : tie.Need-mul-result
-mul-result c = search needs
-
-add-result : tie.Need-add-result
-add-result c = search needs
-
-mul-result-2 : tie.Need-mul-result-2
-mul-result-2 c = search needs
-
-shared-slice-read-result : tie.Need-shared-slice-read-result
-shared-slice-read-result c = search needs
 
 returns-7 : tie.Need-returns-7
 returns-7 c =
@@ -105,18 +78,15 @@ is-fit-crate-spec =
     tie.close
     (tie.spec
     returns
-    shared-slice-read-if2
+    (λ c. search needs)
     returns-2
-    shared-slice-read-if3
+    (λ c. search needs)
     returns-3
-    is-rest-zero-requires
+    (λ c κs. search needs)
     returns-4
-    are-stations-fit-requires
+    (λ c κs. search needs)
     returns-5
-    are-covers-fit-requires
+    (λ c κs. search needs)
     returns-6
-    mul-result
-    add-result
-    mul-result-2
-    shared-slice-read-result
+    (λ c. search needs) (λ c. search needs) (λ c. search needs) (λ c. search needs)
     returns-7)

@@ -6,9 +6,6 @@ use Rattle.dataway.proofs.LamLaws.{reading-none, reading-some}
 use Rattle.dataway.proofs.lam.look_at_me.Statement.{statement}
 use Rattle.dataway.proofs.lam.look_at_me.Tie as tie
 
-l-pattern-requires : tie.Need-l-pattern-requires
-l-pattern-requires c κs = search needs
-
 returns : tie.Need-returns
 returns c = reading-none (c .before .before .before .args .memory .now) _ (c .before .l-pattern .ensures) (c .if1 .taken)
 
@@ -19,4 +16,4 @@ returns-2 : tie.Need-returns-2
 returns-2 c = reading-some (c .before .before .before .args .memory .now) _ (c .before .l-pattern .ensures) (c .if1 .left)
 
 pub look-at-me-spec : {M : Type 1} → statement M
-look-at-me-spec = tie.close (tie.spec l-pattern-requires returns add-t6 returns-2)
+look-at-me-spec = tie.close (tie.spec (λ c κs. search needs) returns add-t6 returns-2)

@@ -12,15 +12,9 @@ returns : tie.Need-returns
 unfolding isFitBlock fitTests
 returns c = simp (ne-eqb _ _ (c .if1 .taken))
 
-is-fit-header-requires : tie.Need-is-fit-header-requires
-is-fit-header-requires c κs = search needs
-
 returns-2 : tie.Need-returns-2
 unfolding isFitBlock fitTests
 returns-2 c = simp ((c .before .before .if1 .left), sym (c .before .is-fit-header .ensures) ∙ not-true _ (c .if2 .taken))
-
-are-spares-zero-requires : tie.Need-are-spares-zero-requires
-are-spares-zero-requires c κs = search needs
 
 returns-3 : tie.Need-returns-3
 unfolding isFitBlock fitTests
@@ -52,9 +46,9 @@ is-fit-block-spec =
     tie.close
     (tie.spec
     returns
-    is-fit-header-requires
+    (λ c κs. search needs)
     returns-2
-    are-spares-zero-requires
+    (λ c κs. search needs)
     returns-3
     are-registers-fit-requires
     returns-4)

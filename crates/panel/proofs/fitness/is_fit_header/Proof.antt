@@ -11,27 +11,9 @@ use Rattle.station.specs.Block.{isFitHeader, headerTests}
 use Rattle.panel.proofs.fitness.is_fit_header.Statement.{statement}
 use Rattle.panel.proofs.fitness.is_fit_header.Tie as tie
 
-shared-slice-read-kind : tie.Need-shared-slice-read-kind
-shared-slice-read-kind c = search needs
-
-shared-slice-read-in-table : tie.Need-shared-slice-read-in-table
-shared-slice-read-in-table c = search needs
-
-shared-slice-read-in-table-2 : tie.Need-shared-slice-read-in-table-2
-shared-slice-read-in-table-2 c = search needs
-
-in-table-requires : tie.Need-in-table-requires
-in-table-requires c κs = search needs
-
 returns : tie.Need-returns
 unfolding isFitHeader headerTests
 returns c = simp (sym (c .before .in-table .ensures) ∙ not-true _ (c .if1 .taken))
-
-sources-requires : tie.Need-sources-requires
-sources-requires c κs = search needs
-
-shared-slice-read-fits-bits : tie.Need-shared-slice-read-fits-bits
-shared-slice-read-fits-bits c = search needs
 
 fits-bits-requires : tie.Need-fits-bits-requires
 fits-bits-requires c κs =
@@ -45,9 +27,6 @@ returns-2 c =
     let table = sym (at-table .before .before .in-table .ensures) ∙ not-false _ (at-table .before .if1 .left) in
     let status = rw (at-table .sources .ensures) at (sym (c .before .fits-bits .ensures) ∙ not-true _ (c .if2 .taken)) in
     sym (header-no-status _ table status)
-
-shared-slice-read-fits-bits-2 : tie.Need-shared-slice-read-fits-bits-2
-shared-slice-read-fits-bits-2 c = search needs
 
 fits-bits-requires-2 : tie.Need-fits-bits-requires-2
 fits-bits-requires-2 c κs =
@@ -70,9 +49,6 @@ last-head-requires c κs =
     let table = sym (at-table .before .before .in-table .ensures) ∙ not-false _ (at-table .before .if1 .left) in
     table-facts _ _ _ table .0
 
-shared-slice-read-if4 : tie.Need-shared-slice-read-if4
-shared-slice-read-if4 c = search needs
-
 returns-4 : tie.Need-returns-4
 returns-4 c =
     let at-mask = c .before .before .before in
@@ -89,9 +65,6 @@ most-fill-requires c κs =
     let table = sym (at-table .before .before .in-table .ensures) ∙ not-false _ (at-table .before .if1 .left) in
     table-facts _ _ _ table .0
 
-shared-slice-read-if5 : tie.Need-shared-slice-read-if5
-shared-slice-read-if5 c = search needs
-
 returns-5 : tie.Need-returns-5
 returns-5 c =
     let at-head = c .before .before .before in
@@ -103,9 +76,6 @@ returns-5 c =
     let mask = rw (at-table .sources .ensures) at (sym (at-mask .before .fits-bits2 .ensures) ∙ not-false _ (at-mask .if3 .left)) in
     let head = rw (at-head .before .before .last-head .ensures) at (at-head .if4 .left) in
     sym (header-no-fill _ table status mask head (rw (c .before .before .most-fill .ensures) at (c .if5 .taken)))
-
-shared-slice-read-result : tie.Need-shared-slice-read-result
-shared-slice-read-result c = search needs
 
 most-covered-requires : tie.Need-most-covered-requires
 most-covered-requires c κs =
@@ -131,24 +101,20 @@ pub is-fit-header-spec : {M : Type 1} → statement M
 is-fit-header-spec =
     tie.close
     (tie.spec
-    shared-slice-read-kind
-    shared-slice-read-in-table
-    shared-slice-read-in-table-2
-    in-table-requires
+    (λ c. search needs) (λ c. search needs) (λ c. search needs) (λ c κs. search needs)
     returns
-    sources-requires
-    shared-slice-read-fits-bits
+    (λ c κs. search needs) (λ c. search needs)
     fits-bits-requires
     returns-2
-    shared-slice-read-fits-bits-2
+    (λ c. search needs)
     fits-bits-requires-2
     returns-3
     last-head-requires
-    shared-slice-read-if4
+    (λ c. search needs)
     returns-4
     most-fill-requires
-    shared-slice-read-if5
+    (λ c. search needs)
     returns-5
-    shared-slice-read-result
+    (λ c. search needs)
     most-covered-requires
     returns-6)

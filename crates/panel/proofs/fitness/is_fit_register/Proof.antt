@@ -6,24 +6,9 @@ use Rattle.station.specs.Block.{isFitRegister}
 use Rattle.panel.proofs.fitness.is_fit_register.Statement.{statement}
 use Rattle.panel.proofs.fitness.is_fit_register.Tie as tie
 
-add-word : tie.Need-add-word
-add-word c = search needs
-
-mul-word : tie.Need-mul-word
-mul-word c = search needs
-
-shared-slice-read-word : tie.Need-shared-slice-read-word
-shared-slice-read-word c = search needs
-
-fits-bits-requires : tie.Need-fits-bits-requires
-fits-bits-requires c κs = search needs
-
 returns : tie.Need-returns
 unfolding isFitRegister
 returns c = simp (sym (c .before .fits-bits .ensures) ∙ not-true _ (c .if1 .taken))
-
-is-used-requires : tie.Need-is-used-requires
-is-used-requires c κs = search needs
 
 returns-2 : tie.Need-returns-2
 unfolding isFitRegister
@@ -43,11 +28,8 @@ pub is-fit-register-spec : {M : Type 1} → statement M
 is-fit-register-spec =
     tie.close
     (tie.spec
-    add-word
-    mul-word
-    shared-slice-read-word
-    fits-bits-requires
+    (λ c. search needs) (λ c. search needs) (λ c. search needs) (λ c κs. search needs)
     returns
-    is-used-requires
+    (λ c κs. search needs)
     returns-2
     returns-3)

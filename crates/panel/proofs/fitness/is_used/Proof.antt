@@ -6,33 +6,12 @@ use Rattle.station.specs.Block.{isUsed}
 use Rattle.panel.proofs.fitness.is_used.Statement.{statement}
 use Rattle.panel.proofs.fitness.is_used.Tie as tie
 
-shared-slice-read-if1 : tie.Need-shared-slice-read-if1
-shared-slice-read-if1 c = search needs
-
-shared-slice-read-head : tie.Need-shared-slice-read-head
-shared-slice-read-head c = search needs
-
-cast-head : tie.Need-cast-head
-cast-head c = search needs
-
-add-result : tie.Need-add-result
-add-result c = search needs
-
-sub-result : tie.Need-sub-result
-sub-result c = search needs
-
-shared-slice-read-result : tie.Need-shared-slice-read-result
-shared-slice-read-result c = search needs
-
 cast-result : tie.Need-cast-result
 cast-result c = omega (arith, (c .shared-slice-known3 .given) 5)
 
 returns : tie.Need-returns
 unfolding isUsed
 returns c = simp (eq-eqb _ _ (c .before .before .if1 .taken))
-
-shared-slice-read-result-2 : tie.Need-shared-slice-read-result-2
-shared-slice-read-result-2 c = search needs
 
 cast-result-2 : tie.Need-cast-result-2
 cast-result-2 c = omega (arith, (c .shared-slice-known4 .given) 1)
@@ -45,14 +24,9 @@ pub is-used-spec : {M : Type 1} → statement M
 is-used-spec =
     tie.close
     (tie.spec
-    shared-slice-read-if1
-    shared-slice-read-head
-    cast-head
-    add-result
-    sub-result
-    shared-slice-read-result
+    (λ c. search needs) (λ c. search needs) (λ c. search needs) (λ c. search needs) (λ c. search needs) (λ c. search needs)
     cast-result
     returns
-    shared-slice-read-result-2
+    (λ c. search needs)
     cast-result-2
     returns-2)

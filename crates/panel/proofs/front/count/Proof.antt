@@ -7,23 +7,8 @@ use Rattle.station.specs.Front.{countedOf}
 use Rattle.panel.proofs.front.count.Statement.{statement}
 use Rattle.panel.proofs.front.count.Tie as tie
 
-add-i : tie.Need-add-i
-add-i c = search needs
-
-mul-count24 : tie.Need-mul-count24
-mul-count24 c = search needs
-
-slice-read-count24 : tie.Need-slice-read-count24
-slice-read-count24 c = search needs
-
 count24-requires : tie.Need-count24-requires
 count24-requires c κs = let pre = (c .before .before .pre) in ((pre .0 .register) _ (pre .1 .0), pre .1 .1)
-
-mul-b : tie.Need-mul-b
-mul-b c = search needs
-
-slice-write-b : tie.Need-slice-write-b
-slice-write-b c = search needs
 
 set-status-bit-requires : tie.Need-set-status-bit-requires
 set-status-bit-requires c κs = (simp length-set (c .before .before .before .before .before .pre .0 .long), omega arith)
@@ -39,9 +24,6 @@ returns c = simp (
   (c .before .before .before .before .before .count24 .ensures .0),
 )
 
-same-length-2 : tie.Need-same-length-2
-same-length-2 c = search needs
-
 returns-2 : tie.Need-returns-2
 unfolding countedOf
 returns-2 c = simp (sym (c .before .count24 .ensures .1) ∙ (c .if1 .left), (c .before .count24 .ensures .0))
@@ -50,14 +32,11 @@ pub count-spec : {M : Type 1} → statement M
 count-spec =
     tie.close
     (tie.spec
-    add-i
-    mul-count24
-    slice-read-count24
+    (λ c. search needs) (λ c. search needs) (λ c. search needs)
     count24-requires
-    mul-b
-    slice-write-b
+    (λ c. search needs) (λ c. search needs)
     set-status-bit-requires
     same-length
     returns
-    same-length-2
+    (λ c. search needs)
     returns-2)

@@ -16,61 +16,13 @@ arm : (b : List ℕ) (a v : ℕ) {i p q d : ℕ} {x c : List ℕ} → (i ≡ 1 �
 unfolding frontOf
 arm b a v n l k e before after digit = simp (ne-eqb _ 1 n, lt-ltb a (countOf b) l, k, e, before, after, digit)
 
-slice-read-kind : tie.Need-slice-read-kind
-slice-read-kind c = search needs
-
-status-requires : tie.Need-status-requires
-status-requires c κs = search needs
-
-same-length : tie.Need-same-length
-same-length c = search needs
-
 returns : tie.Need-returns
 unfolding frontOf
 returns c = simp (eq-eqb _ _ (c .if1 .taken))
 
-slice-read-if2 : tie.Need-slice-read-if2
-slice-read-if2 c = search needs
-
-same-length-2 : tie.Need-same-length-2
-same-length-2 c = search needs
-
 returns-2 : tie.Need-returns-2
 unfolding frontOf
 returns-2 c = simp (ne-eqb _ _ (c .before .before .if1 .left), le-ltb _ _ (c .if2 .taken))
-
-add-requires : tie.Need-add-requires
-add-requires c κs = search needs
-
-status-requires-2 : tie.Need-status-requires-2
-status-requires-2 c κs = search needs
-
-digit-requires : tie.Need-digit-requires
-digit-requires c κs = search needs
-
-hold-requires : tie.Need-hold-requires
-hold-requires c κs = search needs
-
-status-requires-3 : tie.Need-status-requires-3
-status-requires-3 c κs = search needs
-
-digit-requires-2 : tie.Need-digit-requires-2
-digit-requires-2 c κs = search needs
-
-store-requires : tie.Need-store-requires
-store-requires c κs = search needs
-
-count-requires : tie.Need-count-requires
-count-requires c κs = search needs
-
-status-requires-4 : tie.Need-status-requires-4
-status-requires-4 c κs = search needs
-
-digit-requires-3 : tie.Need-digit-requires-3
-digit-requires-3 c κs = search needs
-
-same-length-3 : tie.Need-same-length-3
-same-length-3 c = search needs
 
 returns-3 : tie.Need-returns-3
 unfolding kindEventsOf
@@ -80,9 +32,6 @@ returns-3 c =
     arm _ _ _ (y .before .before .if1 .left) (y .if2 .left) (simp (x .before .before .match .keys1)) (x .add .ensures)
     (y .before .before .before .status .ensures) (c .before .status2 .ensures) (c .digit .ensures)
 
-same-length-4 : tie.Need-same-length-4
-same-length-4 c = search needs
-
 returns-4 : tie.Need-returns-4
 unfolding kindEventsOf
 returns-4 c =
@@ -90,9 +39,6 @@ returns-4 c =
     let y = x .before .before .before in
     arm _ _ _ (y .before .before .if1 .left) (y .if2 .left) (simp (x .before .before .match .keys2)) (x .hold .ensures)
     (y .before .before .before .status .ensures) (c .before .status3 .ensures) (c .digit2 .ensures)
-
-same-length-5 : tie.Need-same-length-5
-same-length-5 c = search needs
 
 returns-5 : tie.Need-returns-5
 unfolding frontOf kindEventsOf
@@ -103,9 +49,6 @@ returns-5 c = simp (
   (c .before .before .store .ensures),
 )
 
-same-length-6 : tie.Need-same-length-6
-same-length-6 c = search needs
-
 returns-6 : tie.Need-returns-6
 unfolding kindEventsOf
 returns-6 c =
@@ -113,9 +56,6 @@ returns-6 c =
     let y = x .before .before .before in
     arm _ _ _ (y .before .before .if1 .left) (y .if2 .left) (simp (x .before .before .match .keys4)) (x .count .ensures)
     (y .before .before .before .status .ensures) (c .before .status4 .ensures) (c .digit3 .ensures)
-
-same-length-7 : tie.Need-same-length-7
-same-length-7 c = search needs
 
 returns-7 : tie.Need-returns-7
 unfolding frontOf kindEventsOf
@@ -132,30 +72,18 @@ pub front-event-spec : {M : Type 1} → statement M
 front-event-spec =
     tie.close
     (tie.spec
-    slice-read-kind
-    status-requires
-    same-length
+    (λ c. search needs) (λ c κs. search needs) (λ c. search needs)
     returns
-    slice-read-if2
-    same-length-2
+    (λ c. search needs) (λ c. search needs)
     returns-2
-    add-requires
-    status-requires-2
-    digit-requires
-    hold-requires
-    status-requires-3
-    digit-requires-2
-    store-requires
-    count-requires
-    status-requires-4
-    digit-requires-3
-    same-length-3
+    (λ c κs. search needs) (λ c κs. search needs) (λ c κs. search needs) (λ c κs. search needs) (λ c κs. search needs) (λ c κs. search needs)
+    (λ c κs. search needs) (λ c κs. search needs) (λ c κs. search needs) (λ c κs. search needs) (λ c. search needs)
     returns-3
-    same-length-4
+    (λ c. search needs)
     returns-4
-    same-length-5
+    (λ c. search needs)
     returns-5
-    same-length-6
+    (λ c. search needs)
     returns-6
-    same-length-7
+    (λ c. search needs)
     returns-7)

@@ -8,30 +8,15 @@ use Rattle.dataway.proofs.CrateLaws.{crate-facts}
 use Rattle.rehearsal.proofs.list.run_list.Statement.{statement}
 use Rattle.rehearsal.proofs.list.run_list.Tie as tie
 
-is-fit-crate-requires : tie.Need-is-fit-crate-requires
-is-fit-crate-requires c κs = search needs
-
-same-length : tie.Need-same-length
-same-length c = search needs
-
 returns : tie.Need-returns
 returns c = list-numbered _ _ _ _ _ _ _ _ _ (list-unfit _ _ _ _ _ (sym (c .before .is-fit-crate .ensures) ∙ not-true _ (c .if1 .taken)))
-
-same-length-2 : tie.Need-same-length-2
-same-length-2 c = search needs
 
 returns-2 : tie.Need-returns-2
 returns-2 c = list-numbered _ _ _ _ _ _ _ _ _ (few-steps _ _ _ _ _ (sym (c .before .before .is-fit-crate .ensures) ∙ not-false _ (c .before .if1 .left)) (c .if2 .taken))
 
-same-length-3 : tie.Need-same-length-3
-same-length-3 c = search needs
-
 returns-3 : tie.Need-returns-3
 returns-3 c = list-numbered _ _ _ _ _ _ _ _ _ (few-answers _ _ _ _ _ (sym (c .before .before .before .is-fit-crate .ensures) ∙ not-false _ (c .before .before .if1 .left))
     (c .if3 .taken))
-
-same-length-4 : tie.Need-same-length-4
-same-length-4 c = search needs
 
 returns-4 : tie.Need-returns-4
 returns-4 c = list-numbered _ _ _ _ _ _ _ _ _ (few-buffers _ _ _ _ _
@@ -49,15 +34,6 @@ run-steps-requires c κs = (
   ),
 )
 
-same-length-5 : tie.Need-same-length-5
-same-length-5 c = search needs
-
-same-length-6 : tie.Need-same-length-6
-same-length-6 c = search needs
-
-same-length-7 : tie.Need-same-length-7
-same-length-7 c = search needs
-
 returns-5 : tie.Need-returns-5
 returns-5 c =
     let b = c .before .before .before .before .before .before in
@@ -69,17 +45,14 @@ pub run-list-spec : {M : Type 1} → statement M
 run-list-spec =
     tie.close
     (tie.spec
-    is-fit-crate-requires
-    same-length
+    (λ c κs. search needs) (λ c. search needs)
     returns
-    same-length-2
+    (λ c. search needs)
     returns-2
-    same-length-3
+    (λ c. search needs)
     returns-3
-    same-length-4
+    (λ c. search needs)
     returns-4
     run-steps-requires
-    same-length-5
-    same-length-6
-    same-length-7
+    (λ c. search needs) (λ c. search needs) (λ c. search needs)
     returns-5)

@@ -9,27 +9,12 @@ use Rattle.dataway.proofs.CrateLaws.{crate-facts}
 use Rattle.rehearsal.proofs.run_file.run_line.Statement.{statement}
 use Rattle.rehearsal.proofs.run_file.run_line.Tie as tie
 
-is-fit-crate-requires : tie.Need-is-fit-crate-requires
-is-fit-crate-requires c κs = search needs
-
-same-length : tie.Need-same-length
-same-length c = search needs
-
 returns : tie.Need-returns
 returns c = step-words _ _ _ _ _ (step-unfit _ _ (sym (c .before .is-fit-crate .ensures) ∙ not-true _ (c .if1 .taken)))
-
-read-line-requires : tie.Need-read-line-requires
-read-line-requires c κs = search needs
 
 perform-requires : tie.Need-perform-requires
 perform-requires c κs = crate-facts _
     (sym (c .before .before .before .before .is-fit-crate .ensures) ∙ not-false _ (c .before .before .before .if1 .left))
-
-same-length-2 : tie.Need-same-length-2
-same-length-2 c = search needs
-
-same-length-3 : tie.Need-same-length-3
-same-length-3 c = search needs
 
 returns-2 : tie.Need-returns-2
 returns-2 c =
@@ -43,11 +28,9 @@ pub run-line-spec : {M : Type 1} → statement M
 run-line-spec =
     tie.close
     (tie.spec
-    is-fit-crate-requires
-    same-length
+    (λ c κs. search needs) (λ c. search needs)
     returns
-    read-line-requires
+    (λ c κs. search needs)
     perform-requires
-    same-length-2
-    same-length-3
+    (λ c. search needs) (λ c. search needs)
     returns-2)

@@ -5,9 +5,6 @@ use Rattle.runfile.specs.Read.{bareLine}
 use Rattle.runfile.proofs.bare.read_bare.Statement.{statement}
 use Rattle.runfile.proofs.bare.read_bare.Tie as tie
 
-is-word-requires : tie.Need-is-word-requires
-is-word-requires c κs = search needs
-
 returns : tie.Need-returns
 unfolding bareLine
 returns c = rw (sym (c .before .is-word .ensures) ∙ c .if1 .taken)
@@ -17,4 +14,4 @@ unfolding bareLine
 returns-2 c = rw (sym (c .before .is-word .ensures) ∙ c .if1 .left)
 
 pub read-bare-spec : {M : Type 1} → statement M
-read-bare-spec = tie.close (tie.spec is-word-requires returns returns-2)
+read-bare-spec = tie.close (tie.spec (λ c κs. search needs) returns returns-2)

@@ -6,35 +6,11 @@ use Rattle.runfile.proofs.Found.{was-absent, was-taken}
 use Rattle.runfile.proofs.commands.read_front.Statement.{statement}
 use Rattle.runfile.proofs.commands.read_front.Tie as tie
 
-slice-aggregate-field-at : tie.Need-slice-aggregate-field-at
-slice-aggregate-field-at c = search needs
-
-field-at-requires : tie.Need-field-at-requires
-field-at-requires c κs = search needs
-
-enum-known-n : tie.Need-enum-known-n
-enum-known-n c = search needs
-
-enum-told : tie.Need-enum-told
-enum-told c = search needs
-
 returns : tie.Need-returns
 unfolding frontLine
 returns c =
     let line = c .before .before .before .before .before .args .line .now in
     rw (was-absent line _ (c .before .before .field-at .ensures) (c .enum-told .given .1))
-
-slice-aggregate-field-at-2 : tie.Need-slice-aggregate-field-at-2
-slice-aggregate-field-at-2 c = search needs
-
-field-at-requires-2 : tie.Need-field-at-requires-2
-field-at-requires-2 c κs = search needs
-
-enum-known-a : tie.Need-enum-known-a
-enum-known-a c = search needs
-
-enum-told-2 : tie.Need-enum-told-2
-enum-told-2 c = search needs
 
 returns-2 : tie.Need-returns-2
 unfolding frontLine
@@ -45,18 +21,6 @@ returns-2 c =
       was-taken line _ (n .before .before .field-at .ensures) (n .n .given .1),
       was-absent line _ (c .before .before .field-at2 .ensures) (c .enum-told2 .given .1),
     )
-
-slice-aggregate-field-at-3 : tie.Need-slice-aggregate-field-at-3
-slice-aggregate-field-at-3 c = search needs
-
-field-at-requires-3 : tie.Need-field-at-requires-3
-field-at-requires-3 c κs = search needs
-
-enum-known-v : tie.Need-enum-known-v
-enum-known-v c = search needs
-
-enum-told-3 : tie.Need-enum-told-3
-enum-told-3 c = search needs
 
 returns-3 : tie.Need-returns-3
 unfolding frontLine
@@ -69,9 +33,6 @@ returns-3 c =
       was-taken line _ (a .before .before .field-at2 .ensures) (a .a .given .1),
       was-absent line _ (c .before .before .field-at3 .ensures) (c .enum-told3 .given .1),
     )
-
-end-at-requires : tie.Need-end-at-requires
-end-at-requires c κs = search needs
 
 returns-4 : tie.Need-returns-4
 unfolding frontLine
@@ -90,20 +51,11 @@ pub read-front-spec : {M : Type 1} → statement M
 read-front-spec =
     tie.close
     (tie.spec
-    slice-aggregate-field-at
-    field-at-requires
-    enum-known-n
-    enum-told
+    (λ c. search needs) (λ c κs. search needs) (λ c. search needs) (λ c. search needs)
     returns
-    slice-aggregate-field-at-2
-    field-at-requires-2
-    enum-known-a
-    enum-told-2
+    (λ c. search needs) (λ c κs. search needs) (λ c. search needs) (λ c. search needs)
     returns-2
-    slice-aggregate-field-at-3
-    field-at-requires-3
-    enum-known-v
-    enum-told-3
+    (λ c. search needs) (λ c κs. search needs) (λ c. search needs) (λ c. search needs)
     returns-3
-    end-at-requires
+    (λ c κs. search needs)
     returns-4)

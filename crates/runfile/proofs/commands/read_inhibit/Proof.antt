@@ -6,26 +6,11 @@ use Rattle.runfile.proofs.Found.{was-absent, was-taken}
 use Rattle.runfile.proofs.commands.read_inhibit.Statement.{statement}
 use Rattle.runfile.proofs.commands.read_inhibit.Tie as tie
 
-slice-aggregate-field-at : tie.Need-slice-aggregate-field-at
-slice-aggregate-field-at c = search needs
-
-field-at-requires : tie.Need-field-at-requires
-field-at-requires c κs = search needs
-
-enum-known-v : tie.Need-enum-known-v
-enum-known-v c = search needs
-
-enum-told : tie.Need-enum-told
-enum-told c = search needs
-
 returns : tie.Need-returns
 unfolding inhibitLine
 returns c =
     let line = c .before .before .before .before .before .args .line .now in
     rw (was-absent line _ (c .before .before .field-at .ensures) (c .enum-told .given .1))
-
-end-at-requires : tie.Need-end-at-requires
-end-at-requires c κs = search needs
 
 returns-2 : tie.Need-returns-2
 unfolding inhibitLine
@@ -38,10 +23,7 @@ pub read-inhibit-spec : {M : Type 1} → statement M
 read-inhibit-spec =
     tie.close
     (tie.spec
-    slice-aggregate-field-at
-    field-at-requires
-    enum-known-v
-    enum-told
+    (λ c. search needs) (λ c κs. search needs) (λ c. search needs) (λ c. search needs)
     returns
-    end-at-requires
+    (λ c κs. search needs)
     returns-2)

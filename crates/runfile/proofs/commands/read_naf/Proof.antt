@@ -1,78 +1,49 @@
 -- `commands::read_naf` meets its contract: at each return, what the calls found says which case of the definition holds.
 use mathlib.Core.Path.{_∙_}
 use borrow.Author.Needs.{needs}
+use Rattle.text.specs.Text.{bytes}
 use Rattle.runfile.specs.Read.{nafLine}
-use Rattle.runfile.proofs.Found.{was-absent, was-headless, was-heads, was-taken}
+use Rattle.runfile.proofs.Found.{was-absent, was-headless, was-heads, headed, was-taken}
 use Rattle.runfile.proofs.commands.read_naf.Statement.{statement}
 use Rattle.runfile.proofs.commands.read_naf.Tie as tie
-
-slice-aggregate-head-of : tie.Need-slice-aggregate-head-of
-slice-aggregate-head-of c = search needs
-
-head-of-requires : tie.Need-head-of-requires
-head-of-requires c κs = search needs
-
-enum-known-n : tie.Need-enum-known-n
-enum-known-n c = search needs
-
-enum-told : tie.Need-enum-told
-enum-told c = search needs
 
 returns : tie.Need-returns
 unfolding nafLine
 returns c =
-    let line = c .before .before .before .before .before .args .line .now in
-    rw (was-headless line _ (c .before .before .head-of .ensures) (c .enum-told .given .1))
-
-slice-aggregate-field-at : tie.Need-slice-aggregate-field-at
-slice-aggregate-field-at c = search needs
-
-field-at-requires : tie.Need-field-at-requires
-field-at-requires c κs = search needs
-
-enum-known-w : tie.Need-enum-known-w
-enum-known-w c = search needs
-
-enum-told-2 : tie.Need-enum-told-2
-enum-told-2 c = search needs
+    let line = c .before .before .before .before .before .before .args .line .now in
+    let head = headed line (c .before .before .before .field-at .result) (c .before .before .head-of .result) (bytes "op=naf n=") (c .before .before .before .field-at .ensures) (c .before .before .head-of .ensures) in
+    rw (was-headless line _ head (c .enum-told .given .1))
 
 returns-2 : tie.Need-returns-2
 unfolding nafLine
 returns-2 c =
     let n = c .before .before .before .before .before in
-    let line = n .before .before .before .before .before .args .line .now in
+    let line = n .before .before .before .before .before .before .args .line .now in
+    let head = headed line (n .before .before .before .field-at .result) (n .before .before .head-of .result) (bytes "op=naf n=") (n .before .before .before .field-at .ensures) (n .before .before .head-of .ensures) in
     rw (
-      was-heads line _ (n .before .before .head-of .ensures) (n .n .given .1),
-      was-absent line _ (c .before .before .field-at .ensures) (c .enum-told2 .given .1),
+      was-heads line _ head (n .n .given .1),
+      was-absent line _ (c .before .before .field-at2 .ensures) (c .enum-told2 .given .1),
     )
-
-end-at-requires : tie.Need-end-at-requires
-end-at-requires c κs = search needs
 
 returns-3 : tie.Need-returns-3
 unfolding nafLine
 returns-3 c =
     let w = c .before .before in
     let n = w .before .before .before .before .before in
-    let line = n .before .before .before .before .before .args .line .now in
+    let line = n .before .before .before .before .before .before .args .line .now in
+    let head = headed line (n .before .before .before .field-at .result) (n .before .before .head-of .result) (bytes "op=naf n=") (n .before .before .before .field-at .ensures) (n .before .before .head-of .ensures) in
     c .end-at .ensures ∙ rw (
-      was-heads line _ (n .before .before .head-of .ensures) (n .n .given .1),
-      was-taken line _ (w .before .before .field-at .ensures) (w .w .given .1),
+      was-heads line _ head (n .n .given .1),
+      was-taken line _ (w .before .before .field-at2 .ensures) (w .w .given .1),
     )
 
 pub read-naf-spec : {M : Type 1} → statement M
 read-naf-spec =
     tie.close
     (tie.spec
-    slice-aggregate-head-of
-    head-of-requires
-    enum-known-n
-    enum-told
+    (λ c. search needs) (λ c κs. search needs) (λ c κs. search needs) (λ c. search needs) (λ c. search needs)
     returns
-    slice-aggregate-field-at
-    field-at-requires
-    enum-known-w
-    enum-told-2
+    (λ c. search needs) (λ c κs. search needs) (λ c. search needs) (λ c. search needs)
     returns-2
-    end-at-requires
+    (λ c κs. search needs)
     returns-3)

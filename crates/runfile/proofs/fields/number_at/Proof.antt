@@ -11,28 +11,16 @@ use Rattle.runfile.proofs.fields.number_at.Tie as tie
 returns : tie.Need-returns
 returns c = sym (number-end _ _ (c .if1 .taken))
 
-shared-slice-read-b : tie.Need-shared-slice-read-b
-shared-slice-read-b c = search needs
-
-is-digit-requires : tie.Need-is-digit-requires
-is-digit-requires c κs = search needs
-
 returns-2 : tie.Need-returns-2
 returns-2 c =
     let other = sym (c .before .is-digit .ensures) ∙ not-true _ (c .if2 .taken) in
     sym (number-none _ _ (c .before .before .before .if1 .left) other)
-
-add-digits-at : tie.Need-add-digits-at
-add-digits-at c = search needs
 
 sub-wide : tie.Need-sub-wide
 sub-wide c =
     let a = c .before .before .before .before .before .args in
     let isDigit = sym (c .before .is-digit .ensures) ∙ not-false _ (c .if2 .left) in
     omega (arith, digit-byte (getD (a .line .now) (a .at) 0) isDigit)
-
-wide-requires : tie.Need-wide-requires
-wide-requires c κs = search needs
 
 digits-at-requires : tie.Need-digits-at-requires
 digits-at-requires c κs =
@@ -51,11 +39,10 @@ number-at-spec =
     tie.close
     (tie.spec
     returns
-    shared-slice-read-b
-    is-digit-requires
+    (λ c. search needs) (λ c κs. search needs)
     returns-2
-    add-digits-at
+    (λ c. search needs)
     sub-wide
-    wide-requires
+    (λ c κs. search needs)
     digits-at-requires
     returns-3)

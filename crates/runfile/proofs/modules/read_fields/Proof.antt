@@ -6,35 +6,11 @@ use Rattle.runfile.proofs.Found.{was-absent, was-taken}
 use Rattle.runfile.proofs.modules.read_fields.Statement.{statement}
 use Rattle.runfile.proofs.modules.read_fields.Tie as tie
 
-slice-aggregate-field-at : tie.Need-slice-aggregate-field-at
-slice-aggregate-field-at c = search needs
-
-field-at-requires : tie.Need-field-at-requires
-field-at-requires c κs = search needs
-
-enum-known-n : tie.Need-enum-known-n
-enum-known-n c = search needs
-
-enum-told : tie.Need-enum-told
-enum-told c = search needs
-
 returns : tie.Need-returns
 unfolding readModule
 returns c =
     let line = c .before .before .before .before .before .args .line .now in
     rw (was-absent line _ (c .before .before .field-at .ensures) (c .enum-told .given .1))
-
-slice-aggregate-field-at-2 : tie.Need-slice-aggregate-field-at-2
-slice-aggregate-field-at-2 c = search needs
-
-field-at-requires-2 : tie.Need-field-at-requires-2
-field-at-requires-2 c κs = search needs
-
-enum-known-kind : tie.Need-enum-known-kind
-enum-known-kind c = search needs
-
-enum-told-2 : tie.Need-enum-told-2
-enum-told-2 c = search needs
 
 returns-2 : tie.Need-returns-2
 unfolding readModule
@@ -45,18 +21,6 @@ returns-2 c =
       was-taken line _ (n .before .before .field-at .ensures) (n .n .given .1),
       was-absent line _ (c .before .before .field-at2 .ensures) (c .enum-told2 .given .1),
     )
-
-slice-aggregate-field-at-3 : tie.Need-slice-aggregate-field-at-3
-slice-aggregate-field-at-3 c = search needs
-
-field-at-requires-3 : tie.Need-field-at-requires-3
-field-at-requires-3 c κs = search needs
-
-enum-known-r : tie.Need-enum-known-r
-enum-known-r c = search needs
-
-enum-told-3 : tie.Need-enum-told-3
-enum-told-3 c = search needs
 
 returns-3 : tie.Need-returns-3
 unfolding readModule
@@ -69,18 +33,6 @@ returns-3 c =
       was-taken line _ (kind .before .before .field-at2 .ensures) (kind .kind .given .1),
       was-absent line _ (c .before .before .field-at3 .ensures) (c .enum-told3 .given .1),
     )
-
-slice-aggregate-field-at-4 : tie.Need-slice-aggregate-field-at-4
-slice-aggregate-field-at-4 c = search needs
-
-field-at-requires-4 : tie.Need-field-at-requires-4
-field-at-requires-4 c κs = search needs
-
-enum-known-wide : tie.Need-enum-known-wide
-enum-known-wide c = search needs
-
-enum-told-4 : tie.Need-enum-told-4
-enum-told-4 c = search needs
 
 returns-4 : tie.Need-returns-4
 unfolding readModule
@@ -95,9 +47,6 @@ returns-4 c =
       was-taken line _ (r .before .before .field-at3 .ensures) (r .r .given .1),
       was-absent line _ (c .before .before .field-at4 .ensures) (c .enum-told4 .given .1),
     )
-
-end-module-at-requires : tie.Need-end-module-at-requires
-end-module-at-requires c κs = search needs
 
 returns-5 : tie.Need-returns-5
 unfolding readModule
@@ -118,25 +67,13 @@ pub read-fields-spec : {M : Type 1} → statement M
 read-fields-spec =
     tie.close
     (tie.spec
-    slice-aggregate-field-at
-    field-at-requires
-    enum-known-n
-    enum-told
+    (λ c. search needs) (λ c κs. search needs) (λ c. search needs) (λ c. search needs)
     returns
-    slice-aggregate-field-at-2
-    field-at-requires-2
-    enum-known-kind
-    enum-told-2
+    (λ c. search needs) (λ c κs. search needs) (λ c. search needs) (λ c. search needs)
     returns-2
-    slice-aggregate-field-at-3
-    field-at-requires-3
-    enum-known-r
-    enum-told-3
+    (λ c. search needs) (λ c κs. search needs) (λ c. search needs) (λ c. search needs)
     returns-3
-    slice-aggregate-field-at-4
-    field-at-requires-4
-    enum-known-wide
-    enum-told-4
+    (λ c. search needs) (λ c κs. search needs) (λ c. search needs) (λ c. search needs)
     returns-4
-    end-module-at-requires
+    (λ c κs. search needs)
     returns-5)

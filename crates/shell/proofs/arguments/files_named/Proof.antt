@@ -9,21 +9,6 @@ use borrow.Author.Needs.{needs}
 use Rattle.shell.proofs.arguments.files_named.Statement.{statement}
 use Rattle.shell.proofs.arguments.files_named.Tie as tie
 
-arg-count-requires : tie.Need-arg-count-requires
-arg-count-requires c κs = search needs
-
-put-bytes-requires : tie.Need-put-bytes-requires
-put-bytes-requires c κs = search needs
-
-put-bytes-requires-2 : tie.Need-put-bytes-requires-2
-put-bytes-requires-2 c κs = search needs
-
-same-length : tie.Need-same-length
-same-length c = search needs
-
-same-length-2 : tie.Need-same-length-2
-same-length-2 c = search needs
-
 returns : tie.Need-returns
 returns c = let one = (c .before .before .before .before .before .before .put-bytes) .ensures in
     let two = (c .before .before .put-bytes2) .ensures in
@@ -32,26 +17,8 @@ returns c = let one = (c .before .before .before .before .before .before .put-by
 returns-2 : tie.Need-returns-2
 returns-2 c = λ e. absurd (true≢false (sym e))
 
-take-name-requires : tie.Need-take-name-requires
-take-name-requires c κs = search needs
-
-take-name-requires-2 : tie.Need-take-name-requires-2
-take-name-requires-2 c κs = search needs
-
-same-length-3 : tie.Need-same-length-3
-same-length-3 c = search needs
-
-same-length-4 : tie.Need-same-length-4
-same-length-4 c = search needs
-
 returns-3 : tie.Need-returns-3
 returns-3 c = λ e. absurd (true≢false (sym e))
-
-same-length-5 : tie.Need-same-length-5
-same-length-5 c = search needs
-
-same-length-6 : tie.Need-same-length-6
-same-length-6 c = search needs
 
 returns-4 : tie.Need-returns-4
 returns-4 c = let one = (c .before .before .before .before .before .before .before .take-name) in
@@ -66,18 +33,10 @@ pub files-named-spec : {M : Type 1} → statement M
 files-named-spec =
     tie.close
     (tie.spec
-    arg-count-requires
-    put-bytes-requires
-    put-bytes-requires-2
-    same-length
-    same-length-2
+    (λ c κs. search needs) (λ c κs. search needs) (λ c κs. search needs) (λ c. search needs) (λ c. search needs)
     returns
     returns-2
-    take-name-requires
-    take-name-requires-2
-    same-length-3
-    same-length-4
+    (λ c κs. search needs) (λ c κs. search needs) (λ c. search needs) (λ c. search needs)
     returns-3
-    same-length-5
-    same-length-6
+    (λ c. search needs) (λ c. search needs)
     returns-4)

@@ -7,15 +7,6 @@ use borrow.Author.Needs.{needs}
 use Rattle.shell.proofs.steps.take_list.Statement.{statement}
 use Rattle.shell.proofs.steps.take_list.Tie as tie
 
-slice-aggregate-open : tie.Need-slice-aggregate-open
-slice-aggregate-open c = search needs
-
-slice-aggregate-open-2 : tie.Need-slice-aggregate-open-2
-slice-aggregate-open-2 c = search needs
-
-open-requires : tie.Need-open-requires
-open-requires c κs = search needs
-
 returns : tie.Need-returns
 returns c = λ e. absurd (true≢false (sym e))
 
@@ -23,32 +14,8 @@ take-parts-requires : tie.Need-take-parts-requires
 take-parts-requires c κs = let pre = (c .before .before .before .before .before .before .before .before .before .before .before .pre) in
     (start-list (pre .0) (pre .1), listed-none)
 
-close-requires : tie.Need-close-requires
-close-requires c κs = search needs
-
-same-length : tie.Need-same-length
-same-length c = search needs
-
-same-length-2 : tie.Need-same-length-2
-same-length-2 c = search needs
-
-same-length-3 : tie.Need-same-length-3
-same-length-3 c = search needs
-
 returns-2 : tie.Need-returns-2
 returns-2 c = λ e. absurd (true≢false (sym e))
-
-finish-requires : tie.Need-finish-requires
-finish-requires c κs = search needs
-
-same-length-4 : tie.Need-same-length-4
-same-length-4 c = search needs
-
-same-length-5 : tie.Need-same-length-5
-same-length-5 c = search needs
-
-same-length-6 : tie.Need-same-length-6
-same-length-6 c = search needs
 
 returns-3 : tie.Need-returns-3
 returns-3 c = let read = (c .before .before .before .before .before .before .before .before .before .before .before .before .before .before .take-parts) in
@@ -60,18 +27,10 @@ pub take-list-spec : {M : Type 1} → statement M
 take-list-spec =
     tie.close
     (tie.spec
-    slice-aggregate-open
-    slice-aggregate-open-2
-    open-requires
+    (λ c. search needs) (λ c. search needs) (λ c κs. search needs)
     returns
     take-parts-requires
-    close-requires
-    same-length
-    same-length-2
-    same-length-3
+    (λ c κs. search needs) (λ c. search needs) (λ c. search needs) (λ c. search needs)
     returns-2
-    finish-requires
-    same-length-4
-    same-length-5
-    same-length-6
+    (λ c κs. search needs) (λ c. search needs) (λ c. search needs) (λ c. search needs)
     returns-3)

@@ -8,29 +8,11 @@ use Rattle.station.specs.Block.{withStatus, withMask, withHead, withFill
 use Rattle.station.proofs.block.zero_module.Statement.{statement}
 use Rattle.station.proofs.block.zero_module.Tie as tie
 
-slice-write-b : tie.Need-slice-write-b
-slice-write-b c = search needs
-
-slice-write-b-2 : tie.Need-slice-write-b-2
-slice-write-b-2 c = search needs
-
-slice-write-b-3 : tie.Need-slice-write-b-3
-slice-write-b-3 c = search needs
-
-slice-write-b-4 : tie.Need-slice-write-b-4
-slice-write-b-4 c = search needs
-
 sub-zero : tie.Need-sub-zero
 sub-zero c = simp length-set (omega arith)
 
 part-zero-start : tie.Need-part-zero-start
 part-zero-start c = simp length-set (omega arith)
-
-part-zero-end : tie.Need-part-zero-end
-part-zero-end c = search needs
-
-zero-requires : tie.Need-zero-requires
-zero-requires c κs = search needs
 
 same-length : tie.Need-same-length
 same-length c = (c .before .b .given .1) ∙ simp length-set
@@ -46,13 +28,9 @@ pub zero-module-spec : {M : Type 1} → statement M
 zero-module-spec =
     tie.close
     (tie.spec
-    slice-write-b
-    slice-write-b-2
-    slice-write-b-3
-    slice-write-b-4
+    (λ c. search needs) (λ c. search needs) (λ c. search needs) (λ c. search needs)
     sub-zero
     part-zero-start
-    part-zero-end
-    zero-requires
+    (λ c. search needs) (λ c κs. search needs)
     same-length
     returns)

@@ -7,24 +7,6 @@ use Rattle.station.specs.Group1.{addedOf}
 use Rattle.station.proofs.group1.add.Statement.{statement}
 use Rattle.station.proofs.group1.add.Tie as tie
 
-add-i : tie.Need-add-i
-add-i c = search needs
-
-mul-add24 : tie.Need-mul-add24
-mul-add24 c = search needs
-
-slice-read-add24 : tie.Need-slice-read-add24
-slice-read-add24 c = search needs
-
-add24-requires : tie.Need-add24-requires
-add24-requires c κs = search needs
-
-mul-b : tie.Need-mul-b
-mul-b c = search needs
-
-slice-write-b : tie.Need-slice-write-b
-slice-write-b c = search needs
-
 set-status-bit-requires : tie.Need-set-status-bit-requires
 set-status-bit-requires c κs = (simp length-set (c .before .before .before .before .before .pre .0 .long), omega arith)
 
@@ -39,9 +21,6 @@ returns c = simp (
   (c .before .before .before .before .before .add24 .ensures .0),
 )
 
-same-length-2 : tie.Need-same-length-2
-same-length-2 c = search needs
-
 returns-2 : tie.Need-returns-2
 unfolding addedOf
 returns-2 c = simp (sym (c .before .add24 .ensures .1) ∙ (c .if1 .left), (c .before .add24 .ensures .0))
@@ -50,14 +29,9 @@ pub add-spec : {M : Type 1} → statement M
 add-spec =
     tie.close
     (tie.spec
-    add-i
-    mul-add24
-    slice-read-add24
-    add24-requires
-    mul-b
-    slice-write-b
+    (λ c. search needs) (λ c. search needs) (λ c. search needs) (λ c κs. search needs) (λ c. search needs) (λ c. search needs)
     set-status-bit-requires
     same-length
     returns
-    same-length-2
+    (λ c. search needs)
     returns-2)

@@ -7,33 +7,12 @@ use Rattle.station.specs.Group1.{clearOf}
 use Rattle.station.proofs.group1.clear.Statement.{statement}
 use Rattle.station.proofs.group1.clear.Tie as tie
 
-slice-read-if1 : tie.Need-slice-read-if1
-slice-read-if1 c = search needs
-
-clear-requires : tie.Need-clear-requires
-clear-requires c κs = search needs
-
-same-length : tie.Need-same-length
-same-length c = search needs
-
 returns : tie.Need-returns
 unfolding clearOf
 returns c =
     let e = c .before .before .before .before .before .before .before in
     let buffer = c .before .before .before .before .if1 .taken in
     simp (eq-eqb _ _ buffer) (rw (buffer-first _ _ (e .pre .0) buffer (e .pre .1 .1)) (c .before .before .clear .ensures))
-
-add-b : tie.Need-add-b
-add-b c = search needs
-
-mul-b : tie.Need-mul-b
-mul-b c = search needs
-
-slice-write-b : tie.Need-slice-write-b
-slice-write-b c = search needs
-
-same-length-2 : tie.Need-same-length-2
-same-length-2 c = search needs
 
 returns-2 : tie.Need-returns-2
 unfolding clearOf
@@ -47,12 +26,7 @@ pub clear-spec : {M : Type 1} → statement M
 clear-spec =
     tie.close
     (tie.spec
-    slice-read-if1
-    clear-requires
-    same-length
+    (λ c. search needs) (λ c κs. search needs) (λ c. search needs)
     returns
-    add-b
-    mul-b
-    slice-write-b
-    same-length-2
+    (λ c. search needs) (λ c. search needs) (λ c. search needs) (λ c. search needs)
     returns-2)

@@ -7,27 +7,12 @@ use Rattle.station.specs.Group1.{readOf}
 use Rattle.station.proofs.group1.read.Statement.{statement}
 use Rattle.station.proofs.group1.read.Tie as tie
 
-shared-slice-read-if1 : tie.Need-shared-slice-read-if1
-shared-slice-read-if1 c = search needs
-
-read-requires : tie.Need-read-requires
-read-requires c κs = search needs
-
 returns : tie.Need-returns
 unfolding readOf
 returns c =
     let e = c .before .before .before .before in
     let buffer = c .before .if1 .taken in
     simp (eq-eqb _ _ buffer) (rw (buffer-first _ _ (e .pre .0) buffer (e .pre .1 .1)) (c .read .ensures))
-
-add-t7 : tie.Need-add-t7
-add-t7 c = search needs
-
-mul-t8 : tie.Need-mul-t8
-mul-t8 c = search needs
-
-shared-slice-read-t4 : tie.Need-shared-slice-read-t4
-shared-slice-read-t4 c = search needs
 
 returns-2 : tie.Need-returns-2
 unfolding readOf
@@ -41,10 +26,7 @@ pub read-spec : {M : Type 1} → statement M
 read-spec =
     tie.close
     (tie.spec
-    shared-slice-read-if1
-    read-requires
+    (λ c. search needs) (λ c κs. search needs)
     returns
-    add-t7
-    mul-t8
-    shared-slice-read-t4
+    (λ c. search needs) (λ c. search needs) (λ c. search needs)
     returns-2)

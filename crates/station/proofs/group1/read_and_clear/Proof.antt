@@ -7,39 +7,12 @@ use Rattle.station.specs.Group1.{readAndClearOf}
 use Rattle.station.proofs.group1.read_and_clear.Statement.{statement}
 use Rattle.station.proofs.group1.read_and_clear.Tie as tie
 
-slice-read-if1 : tie.Need-slice-read-if1
-slice-read-if1 c = search needs
-
-read-and-clear-requires : tie.Need-read-and-clear-requires
-read-and-clear-requires c κs = search needs
-
-same-length : tie.Need-same-length
-same-length c = search needs
-
 returns : tie.Need-returns
 unfolding readAndClearOf
 returns c =
     let e = c .before .before .before .before .before .before .before in
     let buffer = c .before .before .before .before .if1 .taken in
     simp (eq-eqb _ _ buffer) (rw (buffer-first _ _ (e .pre .0) buffer (e .pre .1 .1)) (c .before .before .read-and-clear .ensures))
-
-add-i : tie.Need-add-i
-add-i c = search needs
-
-mul-word : tie.Need-mul-word
-mul-word c = search needs
-
-slice-read-word : tie.Need-slice-read-word
-slice-read-word c = search needs
-
-mul-b : tie.Need-mul-b
-mul-b c = search needs
-
-slice-write-b : tie.Need-slice-write-b
-slice-write-b c = search needs
-
-same-length-2 : tie.Need-same-length-2
-same-length-2 c = search needs
 
 returns-2 : tie.Need-returns-2
 unfolding readAndClearOf
@@ -53,14 +26,7 @@ pub read-and-clear-spec : {M : Type 1} → statement M
 read-and-clear-spec =
     tie.close
     (tie.spec
-    slice-read-if1
-    read-and-clear-requires
-    same-length
+    (λ c. search needs) (λ c κs. search needs) (λ c. search needs)
     returns
-    add-i
-    mul-word
-    slice-read-word
-    mul-b
-    slice-write-b
-    same-length-2
+    (λ c. search needs) (λ c. search needs) (λ c. search needs) (λ c. search needs) (λ c. search needs) (λ c. search needs)
     returns-2)

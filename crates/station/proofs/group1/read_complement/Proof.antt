@@ -7,27 +7,12 @@ use Rattle.station.specs.Group1.{readComplementOf}
 use Rattle.station.proofs.group1.read_complement.Statement.{statement}
 use Rattle.station.proofs.group1.read_complement.Tie as tie
 
-shared-slice-read-if1 : tie.Need-shared-slice-read-if1
-shared-slice-read-if1 c = search needs
-
-read-complement-requires : tie.Need-read-complement-requires
-read-complement-requires c κs = search needs
-
 returns : tie.Need-returns
 unfolding readComplementOf
 returns c =
     let e = c .before .before .before .before in
     let buffer = c .before .if1 .taken in
     simp (eq-eqb _ _ buffer) (rw (buffer-first _ _ (e .pre .0) buffer (e .pre .1 .1)) (c .read-complement .ensures))
-
-add-complement24 : tie.Need-add-complement24
-add-complement24 c = search needs
-
-mul-complement24 : tie.Need-mul-complement24
-mul-complement24 c = search needs
-
-shared-slice-read-complement24 : tie.Need-shared-slice-read-complement24
-shared-slice-read-complement24 c = search needs
 
 complement24-requires : tie.Need-complement24-requires
 complement24-requires c κs = (c .before .before .before .before .pre .0 .register) _ (c .before .before .before .before .pre .1 .0)
@@ -45,11 +30,8 @@ pub read-complement-spec : {M : Type 1} → statement M
 read-complement-spec =
     tie.close
     (tie.spec
-    shared-slice-read-if1
-    read-complement-requires
+    (λ c. search needs) (λ c κs. search needs)
     returns
-    add-complement24
-    mul-complement24
-    shared-slice-read-complement24
+    (λ c. search needs) (λ c. search needs) (λ c. search needs)
     complement24-requires
     returns-2)

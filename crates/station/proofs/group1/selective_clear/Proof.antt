@@ -5,27 +5,6 @@ use Rattle.station.specs.Group1.{selectiveClearOf}
 use Rattle.station.proofs.group1.selective_clear.Statement.{statement}
 use Rattle.station.proofs.group1.selective_clear.Tie as tie
 
-add-i : tie.Need-add-i
-add-i c = search needs
-
-mul-old : tie.Need-mul-old
-mul-old c = search needs
-
-slice-read-old : tie.Need-slice-read-old
-slice-read-old c = search needs
-
-clear-bits-requires : tie.Need-clear-bits-requires
-clear-bits-requires c κs = search needs
-
-mul-b : tie.Need-mul-b
-mul-b c = search needs
-
-slice-write-b : tie.Need-slice-write-b
-slice-write-b c = search needs
-
-same-length : tie.Need-same-length
-same-length c = search needs
-
 returns : tie.Need-returns
 unfolding selectiveClearOf
 returns c = simp ((c .before .before .before .pre .1 .1 .1), lt-ltb _ _ (c .before .before .before .pre .1 .1 .0), (c .clear-bits .ensures))
@@ -34,11 +13,5 @@ pub selective-clear-spec : {M : Type 1} → statement M
 selective-clear-spec =
     tie.close
     (tie.spec
-    add-i
-    mul-old
-    slice-read-old
-    clear-bits-requires
-    mul-b
-    slice-write-b
-    same-length
+    (λ c. search needs) (λ c. search needs) (λ c. search needs) (λ c κs. search needs) (λ c. search needs) (λ c. search needs) (λ c. search needs)
     returns)

@@ -6,21 +6,9 @@ use Rattle.station.specs.Group2.{group2, clearGroup2Of}
 use Rattle.station.proofs.group2.clear.Statement.{statement}
 use Rattle.station.proofs.group2.clear.Tie as tie
 
-slice-write-b : tie.Need-slice-write-b
-slice-write-b c = search needs
-
-slice-write-b-2 : tie.Need-slice-write-b-2
-slice-write-b-2 c = search needs
-
-same-length : tie.Need-same-length
-same-length c = search needs
-
 returns : tie.Need-returns
 unfolding clearGroup2Of group2
 returns c = simp (lt-ltb _ _ (c .before .pre .1 .0), (c .match .keys1))
-
-same-length-2 : tie.Need-same-length-2
-same-length-2 c = search needs
 
 returns-2 : tie.Need-returns-2
 unfolding clearGroup2Of group2
@@ -28,4 +16,4 @@ returns-2 c = simp (lt-ltb _ _ (c .before .pre .1 .0), is-second _ 12 13 (c .bef
 
 pub clear-spec : {M : Type 1} → statement M
 clear-spec =
-    tie.close (tie.spec slice-write-b slice-write-b-2 same-length returns same-length-2 returns-2)
+    tie.close (tie.spec (λ c. search needs) (λ c. search needs) (λ c. search needs) returns (λ c. search needs) returns-2)

@@ -6,18 +6,6 @@ use Rattle.station.specs.Group2.{group2, readGroup2Of}
 use Rattle.station.proofs.group2.read.Statement.{statement}
 use Rattle.station.proofs.group2.read.Tie as tie
 
-shared-slice-read-t5 : tie.Need-shared-slice-read-t5
-shared-slice-read-t5 c = search needs
-
-shared-slice-read-t7 : tie.Need-shared-slice-read-t7
-shared-slice-read-t7 c = search needs
-
-shared-slice-read-t9 : tie.Need-shared-slice-read-t9
-shared-slice-read-t9 c = search needs
-
-shared-slice-read-t11 : tie.Need-shared-slice-read-t11
-shared-slice-read-t11 c = search needs
-
 returns : tie.Need-returns
 unfolding readGroup2Of group2
 returns c = simp (lt-ltb _ _ (c .before .before .pre .1 .0), (c .before .match .keys1))
@@ -37,10 +25,7 @@ pub read-spec : {M : Type 1} → statement M
 read-spec =
     tie.close
     (tie.spec
-    shared-slice-read-t5
-    shared-slice-read-t7
-    shared-slice-read-t9
-    shared-slice-read-t11
+    (λ c. search needs) (λ c. search needs) (λ c. search needs) (λ c. search needs)
     returns
     returns-2
     returns-3)

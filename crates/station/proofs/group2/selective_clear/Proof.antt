@@ -6,33 +6,6 @@ use Rattle.station.specs.Group2.{group2, selectiveClearGroup2Of}
 use Rattle.station.proofs.group2.selective_clear.Statement.{statement}
 use Rattle.station.proofs.group2.selective_clear.Tie as tie
 
-sources-requires : tie.Need-sources-requires
-sources-requires c κs = search needs
-
-low-bits-requires : tie.Need-low-bits-requires
-low-bits-requires c κs = search needs
-
-slice-read-status : tie.Need-slice-read-status
-slice-read-status c = search needs
-
-slice-read-mask : tie.Need-slice-read-mask
-slice-read-mask c = search needs
-
-clear-bits-requires : tie.Need-clear-bits-requires
-clear-bits-requires c κs = search needs
-
-slice-write-b : tie.Need-slice-write-b
-slice-write-b c = search needs
-
-clear-bits-requires-2 : tie.Need-clear-bits-requires-2
-clear-bits-requires-2 c κs = search needs
-
-slice-write-b-2 : tie.Need-slice-write-b-2
-slice-write-b-2 c = search needs
-
-same-length : tie.Need-same-length
-same-length c = search needs
-
 returns : tie.Need-returns
 unfolding selectiveClearGroup2Of group2
 returns c = simp (
@@ -42,9 +15,6 @@ returns c = simp (
   (c .before .before .before .before .low-bits .ensures),
   (c .before .before .before .before .before .sources .ensures),
 )
-
-same-length-2 : tie.Need-same-length-2
-same-length-2 c = search needs
 
 returns-2 : tie.Need-returns-2
 unfolding selectiveClearGroup2Of group2
@@ -62,15 +32,8 @@ pub selective-clear-spec : {M : Type 1} → statement M
 selective-clear-spec =
     tie.close
     (tie.spec
-    sources-requires
-    low-bits-requires
-    slice-read-status
-    slice-read-mask
-    clear-bits-requires
-    slice-write-b
-    clear-bits-requires-2
-    slice-write-b-2
-    same-length
+    (λ c κs. search needs) (λ c κs. search needs) (λ c. search needs) (λ c. search needs) (λ c κs. search needs) (λ c. search needs)
+    (λ c κs. search needs) (λ c. search needs) (λ c. search needs)
     returns
-    same-length-2
+    (λ c. search needs)
     returns-2)

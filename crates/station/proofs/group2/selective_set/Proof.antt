@@ -5,24 +5,6 @@ use Rattle.station.specs.Group2.{group2, selectiveSetGroup2Of}
 use Rattle.station.proofs.group2.selective_set.Statement.{statement}
 use Rattle.station.proofs.group2.selective_set.Tie as tie
 
-sources-requires : tie.Need-sources-requires
-sources-requires c κs = search needs
-
-slice-read-mask : tie.Need-slice-read-mask
-slice-read-mask c = search needs
-
-low-bits-requires : tie.Need-low-bits-requires
-low-bits-requires c κs = search needs
-
-set-bits-requires : tie.Need-set-bits-requires
-set-bits-requires c κs = search needs
-
-slice-write-b : tie.Need-slice-write-b
-slice-write-b c = search needs
-
-same-length : tie.Need-same-length
-same-length c = search needs
-
 returns : tie.Need-returns
 unfolding selectiveSetGroup2Of group2
 returns c = simp (
@@ -36,10 +18,5 @@ pub selective-set-spec : {M : Type 1} → statement M
 selective-set-spec =
     tie.close
     (tie.spec
-    sources-requires
-    slice-read-mask
-    low-bits-requires
-    set-bits-requires
-    slice-write-b
-    same-length
+    (λ c κs. search needs) (λ c. search needs) (λ c κs. search needs) (λ c κs. search needs) (λ c. search needs) (λ c. search needs)
     returns)

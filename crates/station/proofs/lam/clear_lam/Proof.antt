@@ -5,22 +5,10 @@ use Rattle.station.specs.Lam.{clearLamOf}
 use Rattle.station.proofs.lam.clear_lam.Statement.{statement}
 use Rattle.station.proofs.lam.clear_lam.Tie as tie
 
-slice-read-status : tie.Need-slice-read-status
-slice-read-status c = search needs
-
-without-bit-requires : tie.Need-without-bit-requires
-without-bit-requires c κs = search needs
-
-slice-write-b : tie.Need-slice-write-b
-slice-write-b c = search needs
-
-same-length : tie.Need-same-length
-same-length c = search needs
-
 returns : tie.Need-returns
 unfolding clearLamOf
 returns c = simp (lt-ltb _ _ (c .before .before .before .pre .1 .1), (c .without-bit .ensures))
 
 pub clear-lam-spec : {M : Type 1} → statement M
 clear-lam-spec =
-    tie.close (tie.spec slice-read-status without-bit-requires slice-write-b same-length returns)
+    tie.close (tie.spec (λ c. search needs) (λ c κs. search needs) (λ c. search needs) (λ c. search needs) returns)

@@ -4,11 +4,8 @@ use borrow.Author.Needs.{needs}
 use Rattle.station.proofs.lam.test.Statement.{statement}
 use Rattle.station.proofs.lam.test.Tie as tie
 
-bit-requires : tie.Need-bit-requires
-bit-requires c κs = search needs
-
 returns : tie.Need-returns
 returns c = simp (lt-ltb _ _ (c .before .before .pre .1 .1), (c .bit .ensures))
 
 pub test-spec : {M : Type 1} → statement M
-test-spec = tie.close (tie.spec bit-requires returns)
+test-spec = tie.close (tie.spec (λ c κs. search needs) returns)

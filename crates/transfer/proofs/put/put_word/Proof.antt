@@ -7,9 +7,6 @@ use Rattle.transfer.proofs.Putting.{same-offered}
 use Rattle.transfer.proofs.put.put_word.Statement.{statement}
 use Rattle.transfer.proofs.put.put_word.Tie as tie
 
-array-share-prefix-words : tie.Need-array-share-prefix-words
-array-share-prefix-words c = search needs
-
 slice-aggregate-put : tie.Need-slice-aggregate-put
 slice-aggregate-put c =
     let x = c .before .before .before .args in
@@ -21,9 +18,6 @@ put-requires c κs =
     let o = same-offered _ (x .limit) (x .w) refl (omega arith) (omega arith) in
     (c .before .before .before .pre .0, ((omega arith, omega arith, omega arith, omega arith, omega arith, omega arith, o .1), o .2))
 
-same-length : tie.Need-same-length
-same-length c = search needs
-
 returns : tie.Need-returns
 returns c =
     let x = c .before .before .before .before .before .before .args in
@@ -31,4 +25,4 @@ returns c =
     rw (← o .0) (c .before .before .put .ensures .0, c .before .before .put .ensures .1)
 
 pub put-word-spec : {M : Type 1} → statement M
-put-word-spec = tie.close (tie.spec array-share-prefix-words slice-aggregate-put put-requires same-length returns)
+put-word-spec = tie.close (tie.spec (λ c. search needs) slice-aggregate-put put-requires (λ c. search needs) returns)

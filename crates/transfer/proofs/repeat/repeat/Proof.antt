@@ -1,58 +1,70 @@
 -- `repeat` meets its contract. The loop's invariant: the Repeat comes to what it is to come to from where it stands, with the tries that are left
--- (`Repeating`). A cycle keeps it so; the limit reached, X = 0, or no try left, is an end of the definition.
+-- (`Repeating`); and the span is that of the station. A cycle keeps it so; the limit reached, X = 0, or no try left, is an end of the definition.
 -- Assumes nothing.
 use mathlib.Core.Path.{_≡_, ap}
 use mathlib.Core.List.{[]}
 use Prim.Native.Nat.{ℕ, _-_}
 use native.Mathlib.Omega.{arith}
+use Rattle.station.proofs.AcceptedLaws.{read-few}
+use Rattle.dataway.specs.Stations.{AcceptsAt}
 use Rattle.transfer.specs.Cycle.{reads}
 use Rattle.transfer.specs.Repeat.{repeatOf, repeatFrom}
-use Rattle.transfer.proofs.Lent.{lent-here, lent-kept, lent-put, made}
+use Rattle.transfer.proofs.Lent.{lent-here, lent-kept, lent-put, still-accepts, made}
 use Rattle.transfer.proofs.Repeating.{Repeating, repeating-over, repeating-fault, repeating-miss, repeating-hit, repeating-full}
 use Rattle.transfer.proofs.repeat.repeat.Statement.{statement}
 use Rattle.transfer.proofs.repeat.repeat.Tie as tie
 
 abbrev Inv-loop : tie.InvT-loop
-Inv-loop memory₀ buffer₀ n a f limit tries words₀ cycles₀ memory buffer words cycles =
-    Repeating (repeatOf memory₀ n a f limit tries) n a f limit tries memory₀ buffer₀ memory buffer words cycles
+Inv-loop memory₀ buffer₀ n a f limit tries span words₀ cycles₀ memory buffer words cycles =
+    Repeating (repeatOf memory₀ n a f limit tries) n a f limit tries memory₀ buffer₀ memory buffer words cycles × AcceptsAt memory n f span
 
 abbrev μ-loop : tie.MeasureT-loop
-μ-loop memory₀ buffer₀ n a f limit tries words₀ cycles₀ memory buffer words cycles = tries - cycles
+μ-loop memory₀ buffer₀ n a f limit tries span words₀ cycles₀ memory buffer words cycles = tries - cycles
 
 loop-holds : tie.Need-loop-holds Inv-loop μ-loop
 loop-holds c =
-    let x = c .before .before .args in
-    let e : x .tries - 0 ≡ x .tries = omega arith in
-    record {
-      lent = lent-here (c .before .before .pre .0);
-      room = omega arith;
-      left = omega arith;
-      rest = ap (λ (k : ℕ). repeatFrom k (reads (x .f)) (x .n) (x .a) (x .limit) (x .memory .now) [] 0) e;
-    }
+    let x = c .before .before .before .before .args in
+    let e : x .tries - 0 ≡ x .tries = omega arith in (
+      record {
+        lent = lent-here (c .before .before .before .before .pre .0);
+        room = omega arith;
+        left = omega arith;
+        rest = ap (λ (k : ℕ). repeatFrom k (reads (x .f)) (x .n) (x .a) (x .limit) (x .memory .now) [] 0) e;
+      },
+      c .accepted .ensures,
+    )
+
+accepted-requires : tie.Need-accepted-requires Inv-loop μ-loop
+accepted-requires c κs = let e = c .before .before .before in (e .pre .0, (omega arith, omega arith, read-few _ (e .pre .1 .3)))
 
 cycle-requires : tie.Need-cycle-requires Inv-loop μ-loop
-cycle-requires c κs = (c .before .before .loop .inv .lent .fit, (omega arith, omega arith, omega arith, omega arith))
+cycle-requires c κs =
+    let i = c .before .before .loop .inv in
+    let e = c .before .before .before .before .before .before .before in
+    (i .0 .lent .fit, (i .1, (omega arith, omega arith, omega arith, e .pre .1 .3)))
 
 add-cycles : tie.Need-add-cycles Inv-loop μ-loop
 add-cycles c = omega arith
 
 same-length : tie.Need-same-length Inv-loop μ-loop
 same-length c =
+    let p = c .before .before .before .before .before .before .before .before .before .before .before .before .pre .1 in
     let x = c .before .before .before .before .cycle in
-    let d = made (x .ensures .0) (x .ensures .1) (omega arith) (omega arith) (omega arith) in
-    let g = c .before .before .before .before .before .before .before .loop .inv in
+    let d = made (x .ensures .0) (x .ensures .1) (omega (arith, p)) (omega (arith, p)) (omega (arith, p)) in
+    let g = c .before .before .before .before .before .before .before .loop .inv .0 in
     lent-kept (g .lent) d .size
 
 same-length-2 : tie.Need-same-length-2 Inv-loop μ-loop
-same-length-2 c = c .before .before .before .before .before .before .before .loop .inv .lent .long
+same-length-2 c = c .before .before .before .before .before .before .before .loop .inv .0 .lent .long
 
 -- X = 0
 returns : tie.Need-returns Inv-loop μ-loop
 returns c =
+    let p = c .before .before .before .before .before .before .before .before .before .before .before .before .pre .1 in
     let x = c .before .before .before .before .cycle in
-    let d = made (x .ensures .0) (x .ensures .1) (omega arith) (omega arith) (omega arith) in
-    let g = c .before .before .before .before .before .before .before .loop .inv in
-    repeating-fault g (omega arith) d (omega arith) (c .if1 .taken)
+    let d = made (x .ensures .0) (x .ensures .1) (omega (arith, p)) (omega (arith, p)) (omega (arith, p)) in
+    let g = c .before .before .before .before .before .before .before .loop .inv .0 in
+    repeating-fault g (omega (arith, p)) d (omega (arith, p)) (c .if1 .taken)
 
 cast-buffer : tie.Need-cast-buffer Inv-loop μ-loop
 cast-buffer c = omega arith
@@ -68,25 +80,28 @@ add-words c = omega arith
 
 same-length-3 : tie.Need-same-length-3 Inv-loop μ-loop
 same-length-3 c =
+    let p = c .before .before .before .before .before .before .before .before .before .before .before .before .before .before .before .pre .1 in
     let x = c .before .before .before .before .before .before .before .cycle in
-    let d = made (x .ensures .0) (x .ensures .1) (omega arith) (omega arith) (omega arith) in
-    let g = c .before .before .before .before .before .before .before .before .before .before .loop .inv in
+    let d = made (x .ensures .0) (x .ensures .1) (omega (arith, p)) (omega (arith, p)) (omega (arith, p)) in
+    let g = c .before .before .before .before .before .before .before .before .before .before .loop .inv .0 in
     lent-put (g .lent) d .size
 
 same-length-4 : tie.Need-same-length-4 Inv-loop μ-loop
 same-length-4 c =
+    let p = c .before .before .before .before .before .before .before .before .before .before .before .before .before .before .before .pre .1 in
     let x = c .before .before .before .before .before .before .before .cycle in
-    let d = made (x .ensures .0) (x .ensures .1) (omega arith) (omega arith) (omega arith) in
-    let g = c .before .before .before .before .before .before .before .before .before .before .loop .inv in
+    let d = made (x .ensures .0) (x .ensures .1) (omega (arith, p)) (omega (arith, p)) (omega (arith, p)) in
+    let g = c .before .before .before .before .before .before .before .before .before .before .loop .inv .0 in
     lent-put (g .lent) d .long
 
 -- the limit is reached
 returns-2 : tie.Need-returns-2 Inv-loop μ-loop
 returns-2 c =
+    let p = c .before .before .before .before .before .before .before .before .before .before .before .before .before .before .before .pre .1 in
     let x = c .before .before .before .before .before .before .before .cycle in
-    let d = made (x .ensures .0) (x .ensures .1) (omega arith) (omega arith) (omega arith) in
-    let g = c .before .before .before .before .before .before .before .before .before .before .loop .inv in
-    repeating-full g (omega arith) d (omega arith) (c .before .before .before .if1 .left) (c .before .if2 .taken) (c .if3 .taken)
+    let d = made (x .ensures .0) (x .ensures .1) (omega (arith, p)) (omega (arith, p)) (omega (arith, p)) in
+    let g = c .before .before .before .before .before .before .before .before .before .before .loop .inv .0 in
+    repeating-full g (omega (arith, p)) d (omega (arith, p)) (c .before .before .before .if1 .left) (c .before .if2 .taken) (c .if3 .taken)
 
 loop-less : tie.Need-loop-less Inv-loop μ-loop
 loop-less c = omega arith
@@ -94,10 +109,12 @@ loop-less c = omega arith
 -- Q = 1
 loop-again : tie.Need-loop-again Inv-loop μ-loop
 loop-again c =
+    let p = c .before .before .before .before .before .before .before .before .before .before .before .before .before .before .before .pre .1 in
     let x = c .before .before .before .before .before .before .before .cycle in
-    let d = made (x .ensures .0) (x .ensures .1) (omega arith) (omega arith) (omega arith) in
-    let g = c .before .before .before .before .before .before .before .before .before .before .loop .inv in
-    repeating-hit g (omega arith) d (omega arith) (c .before .before .before .if1 .left) (c .before .if2 .taken) (c .if3 .left)
+    let d = made (x .ensures .0) (x .ensures .1) (omega (arith, p)) (omega (arith, p)) (omega (arith, p)) in
+    let g = c .before .before .before .before .before .before .before .before .before .before .loop .inv .0 in
+    let s = c .before .before .before .before .before .before .before .before .before .before .loop .inv .1 in
+    (repeating-hit g (omega (arith, p)) d (omega (arith, p)) (c .before .before .before .if1 .left) (c .before .if2 .taken) (c .if3 .left), still-accepts (g .lent) d (c .before .before .before .before .before .before .before .before .before .before .before .accepted .result) s)
 
 loop-less-2 : tie.Need-loop-less-2 Inv-loop μ-loop
 loop-less-2 c = omega arith
@@ -105,20 +122,22 @@ loop-less-2 c = omega arith
 -- Q = 0
 loop-again-2 : tie.Need-loop-again-2 Inv-loop μ-loop
 loop-again-2 c =
+    let p = c .before .before .before .before .before .before .before .before .before .before .before .before .before .before .pre .1 in
     let x = c .before .before .before .before .before .before .cycle in
-    let d = made (x .ensures .0) (x .ensures .1) (omega arith) (omega arith) (omega arith) in
-    let g = c .before .before .before .before .before .before .before .before .before .loop .inv in
-    repeating-miss g (omega arith) d (omega arith) (c .before .before .if1 .left) (c .if2 .left)
+    let d = made (x .ensures .0) (x .ensures .1) (omega (arith, p)) (omega (arith, p)) (omega (arith, p)) in
+    let g = c .before .before .before .before .before .before .before .before .before .loop .inv .0 in
+    let s = c .before .before .before .before .before .before .before .before .before .loop .inv .1 in
+    (repeating-miss g (omega (arith, p)) d (omega (arith, p)) (c .before .before .if1 .left) (c .if2 .left), still-accepts (g .lent) d (c .before .before .before .before .before .before .before .before .before .before .accepted .result) s)
 
 same-length-5 : tie.Need-same-length-5 Inv-loop μ-loop
-same-length-5 c = c .before .loop .inv .lent .size
+same-length-5 c = c .before .loop .inv .0 .lent .size
 
 same-length-6 : tie.Need-same-length-6 Inv-loop μ-loop
-same-length-6 c = c .before .loop .inv .lent .long
+same-length-6 c = c .before .loop .inv .0 .lent .long
 
 -- cycles equal tries
 returns-3 : tie.Need-returns-3 Inv-loop μ-loop
-returns-3 c = repeating-over (c .before .loop .inv) (omega arith) (c .loop-test .left)
+returns-3 c = repeating-over (c .before .loop .inv .0) (omega arith) (c .loop-test .left)
 
 pub repeat-spec : {M : Type 1} → statement M
 repeat-spec =
@@ -126,6 +145,7 @@ repeat-spec =
     (tie.spec
     Inv-loop
     μ-loop
+    accepted-requires
     loop-holds
     cycle-requires
     add-cycles

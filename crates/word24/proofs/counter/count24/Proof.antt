@@ -8,12 +8,6 @@ use Rattle.word24.proofs.CounterLaws.{sum-fits, sum-back, sum-wraps}
 use Rattle.word24.proofs.counter.count24.Statement.{statement}
 use Rattle.word24.proofs.counter.count24.Tie as tie
 
-signed24-requires : tie.Need-signed24-requires
-signed24-requires c κs = search needs
-
-signed24-requires-2 : tie.Need-signed24-requires-2
-signed24-requires-2 c κs = search needs
-
 add-z : tie.Need-add-z
 add-z c =
     let s = c .before .before in
@@ -24,9 +18,6 @@ wrap24-requires c κs =
     let s = c .before .before in
     sum-wraps _ _ (s .pre .0) (s .pre .1) _ _ (c .before .signed24 .ensures) (c .signed242 .ensures)
 
-raises-requires : tie.Need-raises-requires
-raises-requires c κs = search needs
-
 returns : tie.Need-returns
 returns c =
     let t = c .before .before in
@@ -35,4 +26,4 @@ returns c =
     (c .before .wrap24 .ensures ∙ ap mod24 e, c .raises .ensures ∙ ap (raisesAt (s .args .old)) e)
 
 pub count24-spec : {M : Type 1} → statement M
-count24-spec = tie.close (tie.spec signed24-requires signed24-requires-2 add-z wrap24-requires raises-requires returns)
+count24-spec = tie.close (tie.spec (λ c κs. search needs) (λ c κs. search needs) add-z wrap24-requires (λ c κs. search needs) returns)

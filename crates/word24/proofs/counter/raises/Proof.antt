@@ -7,9 +7,6 @@ use Rattle.word24.proofs.CounterLaws.{outside-raises, zero-raises, othe
 use Rattle.word24.proofs.counter.raises.Statement.{statement}
 use Rattle.word24.proofs.counter.raises.Tie as tie
 
-in-span-requires : tie.Need-in-span-requires
-in-span-requires c κs = search needs
-
 returns : tie.Need-returns
 returns c =
     let s = c .before .before .before in
@@ -26,4 +23,4 @@ returns-3 c =
     outside-raises (s .args .old) (s .args .z) (s .fits .z) _ (c .before .in-span .ensures) (c .if1 .left)
 
 pub raises-spec : {M : Type 1} → statement M
-raises-spec = tie.close (tie.spec in-span-requires returns returns-2 returns-3)
+raises-spec = tie.close (tie.spec (λ c κs. search needs) returns returns-2 returns-3)

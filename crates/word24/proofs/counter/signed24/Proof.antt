@@ -6,9 +6,6 @@ use Rattle.word24.proofs.CounterLaws.{high-fits, low-returns, high-retu
 use Rattle.word24.proofs.counter.signed24.Statement.{statement}
 use Rattle.word24.proofs.counter.signed24.Tie as tie
 
-cast-z : tie.Need-cast-z
-cast-z c = search needs
-
 sub-result : tie.Need-sub-result
 sub-result c = high-fits (c .before .args .x) (c .before .pre)
 
@@ -19,4 +16,4 @@ returns-2 : tie.Need-returns-2
 returns-2 c = high-returns (c .before .args .x) (c .before .pre) (c .if1 .left)
 
 pub signed24-spec : {M : Type 1} → statement M
-signed24-spec = tie.close (tie.spec cast-z sub-result returns returns-2)
+signed24-spec = tie.close (tie.spec (λ c. search needs) sub-result returns returns-2)

@@ -7,11 +7,8 @@ use Rattle.word24.proofs.BitLaws.{one-bit}
 use Rattle.word24.proofs.word.fits_bits.Statement.{statement}
 use Rattle.word24.proofs.word.fits_bits.Tie as tie
 
-shl-result : tie.Need-shl-result
-shl-result c = search needs
-
 returns : tie.Need-returns
 returns c = ap (ltb (c .args .x)) (one-bit 32 (c .args .s) (c .pre))
 
 pub fits-bits-spec : {M : Type 1} → statement M
-fits-bits-spec = tie.close (tie.spec shl-result returns)
+fits-bits-spec = tie.close (tie.spec (λ c. search needs) returns)

@@ -8,9 +8,6 @@ use Rattle.word24.proofs.BitLaws.{one-bit}
 use Rattle.word24.proofs.word.low_bits.Statement.{statement}
 use Rattle.word24.proofs.word.low_bits.Tie as tie
 
-shl-result : tie.Need-shl-result
-shl-result c = search needs
-
 rem-result : tie.Need-rem-result
 rem-result c = rw (one-bit 32 (c .args .s) (c .pre)) (pow-pos (c .args .s))
 
@@ -18,4 +15,4 @@ returns : tie.Need-returns
 returns c = ap (λ (n : ℕ). c .args .w % n) (one-bit 32 (c .args .s) (c .pre))
 
 pub low-bits-spec : {M : Type 1} → statement M
-low-bits-spec = tie.close (tie.spec shl-result rem-result returns)
+low-bits-spec = tie.close (tie.spec (λ c. search needs) rem-result returns)

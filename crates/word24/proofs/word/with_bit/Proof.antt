@@ -7,11 +7,8 @@ use Rattle.word24.proofs.BitLaws.{one-bit}
 use Rattle.word24.proofs.word.with_bit.Statement.{statement}
 use Rattle.word24.proofs.word.with_bit.Tie as tie
 
-shl-result : tie.Need-shl-result
-shl-result c = search needs
-
 returns : tie.Need-returns
 returns c = ap (setBits (c .args .x)) (one-bit 32 (c .args .a) (c .pre))
 
 pub with-bit-spec : {M : Type 1} → statement M
-with-bit-spec = tie.close (tie.spec shl-result returns)
+with-bit-spec = tie.close (tie.spec (λ c. search needs) returns)

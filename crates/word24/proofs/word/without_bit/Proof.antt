@@ -10,9 +10,6 @@ use Rattle.word24.proofs.BitLaws.{one-bit, and-not}
 use Rattle.word24.proofs.word.without_bit.Statement.{statement}
 use Rattle.word24.proofs.word.without_bit.Tie as tie
 
-shl-result : tie.Need-shl-result
-shl-result c = search needs
-
 returns : tie.Need-returns
 returns c =
     let x = c .args .x in
@@ -20,4 +17,4 @@ returns c =
     ap (λ (n : ℕ). bitAnd x (2 ^ 32 - 1 - n)) (one-bit 32 a (c .pre)) ∙ and-not 32 x (2 ^ a) (c .fits .x .fits) (pow-lt (c .pre))
 
 pub without-bit-spec : {M : Type 1} → statement M
-without-bit-spec = tie.close (tie.spec shl-result returns)
+without-bit-spec = tie.close (tie.spec (λ c. search needs) returns)
