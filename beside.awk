@@ -1,5 +1,5 @@
-# Prints each line of run.txt, in the current folder, with its answer in words beside it. The sheet comes on standard input, with
-# failed= after it where the program did not run to its end. Sheet and run.txt are read side by side, so that neither is ever held whole.
+# Prints each line of run.txt, in the current folder, with its answer in words beside it. The sheet comes on standard input.
+# Sheet and run.txt are read side by side, so that neither is ever held whole. Ends with 1 where the crate is refused, with 2 where not all could be printed.
 
 BEGIN {
     FS = "[ =]"
@@ -42,11 +42,10 @@ $1 == "step" { row(run, "none of the ten forms") }
 $1 == "crate" {
     row(lines("crate.txt"), "not n= kind= r= wide=")
     print "crate.txt is refused at this line; nothing was run" | table
+    refused = 1
 }
 
-$1 == "failed" { exit 1 }
-
-END { if (NR > 0 && close(table) != 0) exit 1 }
+END { exit NR > 0 && close(table) != 0 ? 2 : refused }
 
 # The command that gives the lines of a file: no more than are read, and of each no more than shows that it is too long.
 # A byte that is no sign of ASCII becomes ?, but for CR.

@@ -2,13 +2,15 @@
 # usage: ./rehearse.sh [--beside] [--] [FOLDER]
 #
 # Rehearses the run of FOLDER/run.txt on the crate of FOLDER/crate.txt and prints the sheet. Without FOLDER it takes examples/beam-run.
-#   --beside   prints, in place of the sheet, each line of run.txt with its answer in words beside it
+#   --beside   prints, in place of the sheet, each line of run.txt with its answer in words beside it; the two files must be plain files
 #   --help     prints this, and so does -h
 #   --         ends the options, for a folder that is named like one
 #
-# Builds the program first where target/bin/rehearse is not there yet, with its proof: some minutes, once.
-# Ends with 0 once the program has run; what could not be read or written is said on standard error.
-# Ends with 2 where it could not be run, or where --beside could not show the sheet whole.
+# Builds the program first where it was not built from the sources as they stand, with its proof (build.sh): some minutes the first time.
+# Ends with 0 where the sheet is printed,
+#           1 where it says that the crate is refused,
+#           3 where a file was missing or could not be read to its end, which counts as empty from there on and is said on standard error,
+#           2 where nothing could be printed, or not all.
 
 fail() {
     printf 'rehearse.sh: %s\n' "$1" >&2
@@ -49,19 +51,52 @@ cd -P "$place" 2>/dev/null || case $folder in
     *) fail "$folder is no folder, or may not be entered" ;;
 esac
 
-if [ ! -x "$program" ]; then
-    log=$root/target/rehearse-build.log
-    [ -d "$root/crates/rehearse" ] || fail "no program and no sources in $root: link to the script, do not copy it"
-    command -v rt >/dev/null || fail "rt, the command of the Rattle kit, is not on the path; it builds the program"
-    echo "rehearse.sh: building target/bin/rehearse and proving what it rests on; this takes some minutes, once" >&2
-    mkdir -p "$root/target" || fail "no folder $root/target"
-    (cd "$root/" && rt check rehearse) >"$log" 2>&1 || fail "it could not be built; see $log"
+[ -x "$root/build.sh" ] || fail "no build.sh in $root: link to the script, do not copy it"
+"$root/build.sh" rehearse || exit 2
+
+# each line of a file is read again to be shown beside its answer
+if [ "$beside" ]; then
+    for file in crate.txt run.txt; do
+        [ ! -e "$file" ] || [ -f "$file" ] || fail "$folder/$file is no plain file, and --beside reads it twice"
+    done
 fi
+
+# Passes the sheet on, or shows it beside the lines. Ends with 1 where its first line says that the crate is refused, with 2 where it is not passed on whole.
+show() {
+    if [ "$beside" ]; then
+        LC_ALL=C awk -f "$root/beside.awk"
+        return
+    fi
+    IFS= read -r first || { printf %s "$first" && return || return 2; }
+    { printf '%s\n' "$first" | cat - /dev/fd/5; } 5<&0 || return 2
+    case $first in crate=*) return 1 ;; esac
+}
+
+# Passes on what is said on standard error, and tells what came of the run.
+hear() {
+    status=0
+    while IFS= read -r said || [ "$said" ]; do
+        case $said in
+            shown=0) continue ;;
+            shown=1) [ "$status" = 2 ] || status=1 && continue ;;
+            shown=*) status=2 && continue ;;
+            failed=*) status=2 && said="rehearse.sh: $program did not run to its end" ;;
+            *' is missing; '* | 'cannot read '*) [ "$status" != 0 ] || status=3 ;;
+            'cannot write '*) status=2 ;;
+        esac
+        printf '%s\n' "$said" >&2
+    done
+    echo "$status"
+}
 
 # with the signal ignored, who writes says on standard error that the output was closed
 trap '' PIPE
-if [ "$beside" ]; then
-    { "$program" || printf '\nfailed=%s\n' $?; } | LC_ALL=C awk -f "$root/beside.awk" || fail "the sheet could not be shown whole"
-else
-    "$program" || fail "$program did not run to its end"
-fi
+{ command exec 3>&1; } 2>/dev/null || fail "standard output is closed"
+status=$({
+    { "$program" 2>&4 || echo "failed=$?" >&4; } | {
+        show >&3
+        echo "shown=$?" >&4
+    }
+} 4>&1 | hear)
+[ "$status" != 2 ] || fail "the sheet could not be shown whole"
+exit "$status"

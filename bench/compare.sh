@@ -22,7 +22,8 @@ for number in "$runs" "$folders" "$first"; do
     case $number in '' | *[!0-9]*) fail "RUNS, FOLDERS and FIRST are numbers, not '$number'" ;; esac
 done
 [ "$runs" -ge 1 ] || fail "RUNS is at least 1"
-[ -x "$program" ] && [ -f "$program" ] || fail "no program at $program; build it, or give its path"
+[ "${1-}" ] || "$root/build.sh" rehearse || fail "the program does not build"
+[ -x "$program" ] && [ -f "$program" ] || fail "no program at $program"
 program=$(cd "$(dirname "$program")" && pwd)/$(basename "$program")
 for tool in gcc python3; do
     command -v "$tool" >/dev/null || fail "$tool is not on the path"

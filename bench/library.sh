@@ -10,7 +10,6 @@ export LC_ALL
 
 root=$(cd "$(dirname "$0")/.." && pwd)
 here=$root/bench
-archive=$root/target/staticlib/libcapi.a
 count=${1:-500000}
 seed=${2:-1}
 
@@ -23,12 +22,7 @@ command -v rustc >/dev/null || fail "rustc is not on the path"
 work=$(mktemp -d) || fail "no folder for the program"
 trap 'rm -rf "$work"' EXIT
 
-# The library is built only when it is not there: after a change, remove target/staticlib or run `rt staticlib capi`.
-if [ ! -f "$archive" ]; then
-    command -v rt >/dev/null || fail "rt is not on the path, and there is no $archive"
-    echo "proving and building the library"
-    (cd "$root" && rt staticlib capi) >"$work/log" 2>&1 || { tail -n 20 "$work/log" >&2; fail "the library does not build"; }
-fi
+"$root/build.sh" library || fail "the library does not build"
 
 echo "building the comparison"
 rustc -O --edition 2021 -L "native=$root/target/staticlib" -l static=capi -o "$work/library" "$here/library.rs" || fail "library.rs does not build"

@@ -3,7 +3,7 @@
  * The rules are those of document 01, "The CAMAC rehearsal crate", and of document 02, requests L1 to L7; docs/RULES.md has them, numbered. Each function is
  * proved to return and to leave what its definition in crates/capi/specs/Calls.antt says, for any contents and any lengths of the arrays that it is lent.
  *
- * Build the archive with `rt staticlib capi` and link target/staticlib/libcapi.a (x86-64 Linux). The library keeps no state, allocates nothing
+ * Build the archive with `./build.sh library` and link target/staticlib/libcapi.a (x86-64 Linux). The library keeps no state, allocates nothing
  * and asks of the C library no more than memset: two threads may call it at once on different arrays.
  *
  * What the caller sees to:

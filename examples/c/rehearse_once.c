@@ -1,6 +1,6 @@
 /* A scaler in station 3 and an output register in station 4, rehearsed step by step, then as a list. From the repository's root:
  *
- *   rt staticlib capi
+ *   ./build.sh library
  *   gcc -std=c99 -Wall -Wextra -I include examples/c/rehearse_once.c target/staticlib/libcapi.a -o target/rehearse_once
  *   target/rehearse_once
  */

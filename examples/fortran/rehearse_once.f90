@@ -1,6 +1,6 @@
 ! A scaler in station 3 and an output register in station 4, rehearsed line by line. From the repository's root:
 !
-!   rt staticlib capi
+!   ./build.sh library
 !   gfortran -std=f2008 -Wall -J target examples/fortran/rehearse_once.f90 target/staticlib/libcapi.a -o target/rehearse_once_f
 !   target/rehearse_once_f
 !

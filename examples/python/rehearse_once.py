@@ -1,6 +1,6 @@
 """A scaler in station 3 and an output register in station 4, rehearsed line by line, by ctypes. From the repository's root:
 
-    rt staticlib capi
+    ./build.sh library
     gcc -shared -o target/libpagontxu.so -Wl,--whole-archive target/staticlib/libcapi.a -Wl,--no-whole-archive
     python3 examples/python/rehearse_once.py target/libpagontxu.so
 """
@@ -72,7 +72,13 @@ class Crate:
 
 
 def main():
-    crate = Crate(load(sys.argv[1]), [b"n=3 kind=1 r=2 wide=1", b"n=4 kind=2 r=2 wide=1"])
+    if len(sys.argv) != 2 or sys.argv[1].startswith("-"):
+        sys.exit("usage: rehearse_once.py LIBRARY    the library for C as a shared one, as target/libpagontxu.so")
+    try:
+        lib = load(sys.argv[1])
+    except (OSError, AttributeError) as error:
+        sys.exit(f"{sys.argv[1]} is not the library: {error}")
+    crate = Crate(lib, [b"n=3 kind=1 r=2 wide=1", b"n=4 kind=2 r=2 wide=1"])
     for line in (
         b"op=front n=3 a=0 v=16777215",
         b"op=naf n=3 a=0 f=26 w=0",
