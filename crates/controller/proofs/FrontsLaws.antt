@@ -1,7 +1,7 @@
 -- What a front event answers: a step that answers a digit was done, from a fit crate and with fields within their bounds (`FinishedLaws`), so the laws of a
 -- station's event speak of it (`digit-where`, `two-where-raised`).
 -- Assumes nothing.
-use Prim.Native.Nat.{ℕ, _<_, _^_}
+use Prim.Native.Nat.{ℕ}
 use mathlib.Core.Path.{_≡_, sym, ap, subst, _∙_}
 use mathlib.Core.List.{List}
 use native.Mathlib.Omega.{arith}

@@ -1,7 +1,7 @@
 -- Where a Repeat and a Stop end 3: a step that answers end, words and cycles was done, from a fit crate and with fields within their bounds (`FinishedLaws`),
 -- so the laws of the transfers speak of it (`repeat-ends-three`, `stop-ends-three`).
 -- Assumes nothing.
-use Prim.Native.Nat.{ℕ, _≤_, _<_}
+use Prim.Native.Nat.{ℕ, _≤_}
 use mathlib.Core.Path.{_≡_, refl, sym, ap, _∙_}
 use mathlib.Core.List.{List}
 use native.Mathlib.Omega.{arith}

@@ -11,10 +11,8 @@ pub struct Module {
     pub wide: u32,
 }
 
-// The kinds; 0 is an empty station.
+// The kinds that the code names; 0 is an empty station, 2 an output register.
 pub const SCALER: u32 = 1;
-
-pub const OUTPUT_REGISTER: u32 = 2;
 
 pub const INPUT_REGISTER: u32 = 3;
 

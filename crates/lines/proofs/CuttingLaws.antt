@@ -81,10 +81,6 @@ module _ {S : Type 0} (d : Does S) where
   unfolding ended
   ended-number s = refl
 
-  pub ended-held : (s : Cutting S) → ended d s .held ≡ d .line (s .number + 1) (s .part) (s .held)
-  unfolding ended
-  ended-held s = refl
-
   -- ---- one byte
   pub step-shut : (s : Cutting S) (b : ℕ) → opened d s ≡ false → step d s b ≡ s
   unfolding step

@@ -13,7 +13,7 @@ use lib.ListN.{length, getD}
 use Rattle.blocks.specs.Blocks.{Agree, word, inhibitOf, blockOf, withBlock}
 use Rattle.blocks.proofs.Blocks.{blocks-ext, block-of-agree, put-in, put-other}
 use Rattle.regroup.specs.Local.{All, Seen, Local}
-use Rattle.regroup.proofs.Stations.{which, Outside, untouched}
+use Rattle.regroup.proofs.Stations.{Outside, untouched}
 
 module _ (fit : List ℕ → Type 0) (size : (m : List ℕ) → fit m → length m ≡ 768) where
   -- fit memories that are the same wherever what keeps to all 23 may look are equal
@@ -82,28 +82,7 @@ module _ (fit : List ℕ → Type 0) (size : (m : List ℕ) → fit m → length
           ∙ s .0 k x y h .0 w i
           ∙ sym (put-other m′ n (after m′) (size m′ q′) (omega arith) (long m′ q′) k w i d)
 
-  -- ---- a wider set, another answer
-
-  -- what keeps to a set keeps to a wider one
-  pub local-wider : {Out : Type 0} (on wide : ℕ → Bool) (f : List ℕ → List ℕ) (g : List ℕ → Out)
-      → ((n : ℕ) → 1 ≤ n → n ≤ 23 → on n ≡ true → wide n ≡ true) → Local fit on f g → Local fit wide f g
-  local-wider on wide f g w l = record {
-    keeps = l .keeps;
-    frame = λ m q n a b h. l .frame m q n a b (off n a b h (which (on n)));
-    reads = λ m m′ q q′ s.
-        let r = l .reads m m′ q q′ (λ n a b h. s .0 n a b (w n a b h), λ all. s .1 (λ n a b. w n a b (all n a b))) in
-        (r .0, λ n a b h. after m m′ q q′ s (r .1) n a b h (which (on n)));
-  }
-    where
-      off : (n : ℕ) → 1 ≤ n → n ≤ 23 → wide n ≡ false → (on n ≡ true) ⊎ (on n ≡ false) → on n ≡ false
-      off n a b h (inl k) = absurd (true≢false (sym (w n a b k) ∙ h))
-      off n a b h (inr k) = k
-
-      after : (m m′ : List ℕ) → fit m → fit m′ → Seen wide m m′ → ((n : ℕ) → 1 ≤ n → n ≤ 23 → on n ≡ true → Agree (f m) (f m′) n)
-          → (n : ℕ) → 1 ≤ n → n ≤ 23 → wide n ≡ true → (on n ≡ true) ⊎ (on n ≡ false) → Agree (f m) (f m′) n
-      after m m′ q q′ s r n a b h (inl k) = r n a b k
-      after m m′ q q′ s r n a b h (inr k) = λ v i.
-          l .frame m q n a b k .0 v i ∙ s .0 n a b h .0 v i ∙ sym (l .frame m′ q′ n a b k .0 v i)
+  -- ---- another answer
 
   -- something made of what was given back, given back in its stead
   pub local-map : {A B : Type 0} (on : ℕ → Bool) (f : List ℕ → List ℕ) (g : List ℕ → A) (h : A → B)

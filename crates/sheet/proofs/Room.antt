@@ -15,12 +15,11 @@ use Rattle.text.specs.Paste.{Put}
 use Rattle.text.proofs.Decimal.{length-ten, field-short}
 use Rattle.text.proofs.Paste.{paste-nothing}
 use Rattle.step.specs.Refusals.{refusalNumber}
-use Rattle.step.specs.declared.Refusal.{Refusal}
 use Rattle.transfer.specs.declared.Transfer.{Transfer}
 use Rattle.controller.specs.Steps.{Out}
 use Rattle.controller.specs.declared.Answer.{Answer}
 use Rattle.controller.specs.declared.Answer.the-variants.{Replied, Taken, Done, Looked, Transferred, Wrote, Refused}
-use Rattle.sheet.specs.Answers.{body, stepLine, stored, wordLine, wordLines, stepText, crateText}
+use Rattle.sheet.specs.Answers.{body, stepLine, stored, wordLine, wordLines, stepText}
 
 -- room for a number of ten digits is room for any
 pub field-room : (at k n len : ℕ) → at + k + 10 ≤ len → at + k + length (decimal n) ≤ len
@@ -52,10 +51,6 @@ word-short w = simp length-append (omega (arith, length-ten w))
 pub words-short : (ws : List ℕ) → length (wordLines ws) ≤ 16 * length ws
 words-short [] = omega arith
 words-short (w ∷ ws) = rw (length-append (wordLine w) (wordLines ws)) (omega (arith, word-short w, words-short ws))
-
-pub crate-short : (k : ℕ) (q : Refusal) → length (crateText k q) ≤ 36
-unfolding crateText
-crate-short k q = simp length-append (omega (arith, length-ten k, length-ten (refusalNumber q)))
 
 -- no text at all
 pub put-nothing : (o : List ℕ) (at : ℕ) → Put o at [] o at

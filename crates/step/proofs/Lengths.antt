@@ -7,7 +7,7 @@ use Prim.Native.Nat.{ℕ, zero, suc}
 use lib.Dec.{leb}
 use lib.ListN.{length, take, drop, replicate, length-replicate}
 use Rattle.step.specs.declared.Refusal.{Refusal}
-use Rattle.step.specs.declared.Refusal.the-variants.{NoSuchStation, NoSuchSubaddress, CrossedRange, BadLength, ShortBuffer, OverwideWord}
+use Rattle.step.specs.declared.Refusal.the-variants.{NoSuchStation, NoSuchSubaddress, CrossedRange, BadLength, ShortBuffer}
 use Rattle.step.specs.declared.Step.{Step}
 use Rattle.step.specs.declared.Step.the-variants.{Command, Front, Z, C, Inhibit, LookAtMe, Scan, Repeat, Stop, Put, PutLent}
 use Rattle.step.specs.declared.Verdict.{Verdict}

@@ -36,10 +36,6 @@ module _ (previous covered : ℕ) (p : Module) (fine : isFine (moduleVerdict pre
       let k = and-eq-true-iff (leb 1 (p .kind)) (inTable (p .kind) (p .r) (p .wide)) .0 (f .0) in
       (s .0, o .0, c .0, k .0, k .1, f .1)
 
-  -- so it stands above the line before
-  pub above-fine : previous < p .n
-  above-fine = ltb-true previous (p .n) (passed .1)
-
   -- in a station that is not covered
   pub free-fine : covered ≡ 0
   free-fine = eqb-true covered 0 (passed .2)

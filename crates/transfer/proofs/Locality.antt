@@ -1,7 +1,7 @@
 -- The transfers keep to their stations: a scan and a put to those from N to `to`, a Repeat and a Stop to N. Their cycles are commands, and a command keeps to
--- its station. So each leaves a fit crate fit.
+-- its station.
 -- Assumes nothing.
-use mathlib.Core.Path.{_≡_, refl}
+use mathlib.Core.Path.{_≡_}
 use mathlib.Core.Bool.{Bool, true}
 use mathlib.Core.List.{List, []}
 use Prim.Native.Nat.{ℕ, _≤_}
@@ -48,20 +48,3 @@ module _ (n a : ℕ) (lo : 1 ≤ n) (low : a ≤ 15) where
     pub local-stop : (f limit : ℕ) → n ≤ 23 → on n ≡ true
         → Local FitCrate on (λ (m : List ℕ). stopOf m n a f limit .memory) (λ (m : List ℕ). told (stopOf m n a f limit))
     local-stop f limit hi here = keeps-stop FitCrate crate-size (reads f) on (local-read on f) n a lo hi low here limit [] 0
-
-  -- ---- a fit crate stays fit
-  abbrev all : ℕ → Bool
-  all i = true
-
-  module _ (m : List ℕ) (h : FitCrate m) where
-    pub scan-fit : (f to limit : ℕ) → to ≤ 23 → FitCrate (scanOf m n a f to limit .memory)
-    scan-fit f to limit top = local-scan all f to limit top (λ i p q. refl) .keeps m h
-
-    pub put-fit : (to limit : ℕ) (offered : List ℕ) → Narrow offered → to ≤ 23 → FitCrate (putOf m n a to limit offered .memory)
-    put-fit to limit offered narrow top = local-put all to limit offered narrow top (λ i p q. refl) .keeps m h
-
-    pub repeat-fit : (f limit tries : ℕ) → n ≤ 23 → FitCrate (repeatOf m n a f limit tries .memory)
-    repeat-fit f limit tries hi = local-repeat all f limit tries hi refl .keeps m h
-
-    pub stop-fit : (f limit : ℕ) → n ≤ 23 → FitCrate (stopOf m n a f limit .memory)
-    stop-fit f limit hi = local-stop all f limit hi refl .keeps m h

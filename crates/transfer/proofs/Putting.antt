@@ -1,8 +1,8 @@
 -- A put under way: its path, with a zero for each word used up, since F16 reads nothing. A lemma for each way that a turn of the loops can go.
 -- Assumes nothing.
 use mathlib.Core.Path.{_≡_, refl, sym, ap, _∙_}
-use mathlib.Core.Bool.{Bool, true, false, cond, _&&_}
-use mathlib.Core.List.{List, [], _∷_, _++_}
+use mathlib.Core.Bool.{Bool, true, false, _&&_}
+use mathlib.Core.List.{List, [], _∷_}
 use Prim.Native.Nat.{ℕ, zero, suc, _+_, _*_, _≤_, _<_}
 use native.Mathlib.Omega.{arith}
 use lib.Dec.{ltb}
@@ -10,14 +10,13 @@ use lib.ListN.{length, getD, take, replicate, length-replicate, replicate-append
 use Rattle.blocks.specs.Blocks.{blockOf}
 use Rattle.kinds.specs.Cases.{isOneOf}
 use Rattle.station.specs.Block.{kindOf, countOf, withRegister}
-use Rattle.station.specs.Outcome.{Outcome, accept, done}
+use Rattle.station.specs.Outcome.{accept, done}
 use Rattle.station.specs.Group1.{overwriteOf}
 use Rattle.station.specs.Command.{commandOf, functionsOf}
 use Rattle.station.specs.declared.Reply.{Reply}
 use Rattle.dataway.specs.Crate.{FitCrate}
 use Rattle.dataway.specs.Stations.{replyOf, afterCommand}
 use Rattle.dataway.proofs.StationLaws.{command-fit}
-use Rattle.transfer.specs.declared.Transfer.{Transfer}
 use Rattle.transfer.specs.Cycle.{Ended, transferOf, store}
 use Rattle.transfer.specs.Scan.{scanning}
 use Rattle.transfer.specs.Put.{writes}

@@ -8,9 +8,9 @@ use native.Mathlib.Nat.{mod-lt, mod-eq-of-lt, one-mul, pow-suc, sub-le, zero-div
 use native.Mathlib.Numerals.{one-add}
 use native.Mathlib.Omega.{arith}
 use lib.Arith.{lt-one}
-use lib.Bits.{bitAnd, bitOr, and-step, or-step, and-shr, or-shr, and-le-l, or-lt}
+use lib.Bits.{bitAnd, bitOr, and-step, or-step, and-shr, or-shr, and-le-l}
 use lib.Pow.{pow-pos, pow-lt, pow-mono, shr-shr, field, mod-mod-pow}
-use Rattle.word24.specs.Word.{complementOf, setBits, clearBits, bitOf, lowBits}
+use Rattle.word24.specs.Word.{setBits, clearBits, bitOf, lowBits}
 
 -- ---- the complement of k bits, one bit at a time
 pub shr-suc : (n k : ℕ) → n / 2 ^ suc k ≡ n / 2 / 2 ^ k
@@ -50,7 +50,7 @@ and-not k x w hx hw = omega (arith, and-not-add k x w hx hw)
 pub one-bit : (k a : ℕ) → a < k → (1 * 2 ^ a) % 2 ^ k ≡ 2 ^ a
 one-bit k a h = ap (λ (n : ℕ). n % 2 ^ k) (one-mul (2 ^ a)) ∙ mod-eq-of-lt (pow-lt h)
 
--- ---- bit by bit: `bitOr` takes the greater of two bits, `bitAnd` the lesser, `clearBits` the first less the second, the complement 1 less it
+-- ---- bit by bit: `bitOr` takes the greater of two bits, `bitAnd` the lesser, `clearBits` the first less the second
 pub bit-or : (a x w : ℕ) → bitOf a (bitOr x w) ≡ max (bitOf a x) (bitOf a w)
 bit-or a x w = ap (λ (n : ℕ). n % 2) (or-shr x w a) ∙ omega (arith, or-step (x / 2 ^ a) (w / 2 ^ a))
 
@@ -73,15 +73,6 @@ clear-shr (suc a) x w =
 
 pub bit-clear : (a x w : ℕ) → bitOf a (clearBits x w) ≡ bitOf a x - bitOf a w
 bit-clear a x w = ap (λ (n : ℕ). n % 2) (clear-shr a x w) ∙ clear-low (x / 2 ^ a) (w / 2 ^ a)
-
-bit-not : (k a x : ℕ) → a < k → x < 2 ^ k → bitOf a (2 ^ k - 1 - x) ≡ 1 - bitOf a x
-bit-not zero a x h l = absurd (omega arith)
-bit-not (suc k) zero x h l = simp div-one (complement-low k x l)
-bit-not (suc k) (suc a) x h l =
-    rw (shr-suc x a, shr-suc (2 ^ suc k - 1 - x) a, complement-half k x l) (bit-not k a (x / 2) (omega arith) (half-lt k x l))
-
-pub bit-complement : (a x : ℕ) → a < 24 → x < 2 ^ 24 → bitOf a (complementOf x) ≡ 1 - bitOf a x
-bit-complement a x h l = bit-not 24 a x h l
 
 -- two words of k bits with the same bits are the same
 pub bit-ext : (k x y : ℕ) → x < 2 ^ k → y < 2 ^ k → ((a : ℕ) → a < k → bitOf a x ≡ bitOf a y) → x ≡ y
@@ -109,15 +100,6 @@ bit-pow-other (suc a) (suc b) h = rw (shr-suc, half-pow b) (bit-pow-other a b (�
 pub with-bit-same : (a x : ℕ) → bitOf a (setBits x (2 ^ a)) ≡ 1
 with-bit-same a x = bit-or a x (2 ^ a) ∙ omega (arith, bit-pow-same a)
 
-pub with-bit-other : (a b x : ℕ) → b ≢ a → bitOf b (setBits x (2 ^ a)) ≡ bitOf b x
-with-bit-other a b x h = bit-or b x (2 ^ a) ∙ omega (arith, bit-pow-other b a h)
-
-pub without-bit-same : (a x : ℕ) → bitOf a (clearBits x (2 ^ a)) ≡ 0
-without-bit-same a x = bit-clear a x (2 ^ a) ∙ omega (arith, bit-pow-same a)
-
-pub without-bit-other : (a b x : ℕ) → b ≢ a → bitOf b (clearBits x (2 ^ a)) ≡ bitOf b x
-without-bit-other a b x h = bit-clear b x (2 ^ a) ∙ omega (arith, bit-pow-other b a h)
-
 -- ---- `lowBits` keeps the bits below s, and a word of s bits has no others
 pub low-bit : (s i w : ℕ) → i < s → bitOf i (lowBits s w) ≡ bitOf i w
 low-bit s i w h =
@@ -132,9 +114,6 @@ high-bit s i x h l = ap (λ (n : ℕ). n % 2) (div-eq-of-lt (lt-of-lt-of-le h (p
 pub clear-le : (x w : ℕ) → clearBits x w ≤ x
 unfolding clearBits
 clear-le x w = sub-le x (bitAnd x w)
-
-pub with-bit-lt : (s a x : ℕ) → a < s → x < 2 ^ s → setBits x (2 ^ a) < 2 ^ s
-with-bit-lt s a x h l = or-lt s x (2 ^ a) l (pow-lt h)
 
 pub low-bits-lt : (s w : ℕ) → lowBits s w < 2 ^ s
 low-bits-lt s w = mod-lt w (pow-pos s)

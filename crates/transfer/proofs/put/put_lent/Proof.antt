@@ -1,6 +1,6 @@
 -- `put_lent` meets its contract: what it offers is the first `limit` of the words lent.
 -- Assumes nothing.
-use mathlib.Core.Path.{_≡_, sym}
+use mathlib.Core.Path.{sym}
 use native.Mathlib.Omega.{arith}
 use borrow.Author.Needs.{needs}
 use lib.Seq.{length-take-le}

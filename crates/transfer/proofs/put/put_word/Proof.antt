@@ -1,6 +1,6 @@
 -- `put_word` meets its contract: what it offers is `limit` words, each w.
 -- Assumes nothing.
-use mathlib.Core.Path.{_≡_, refl, sym, ap, _∙_}
+use mathlib.Core.Path.{refl, sym}
 use native.Mathlib.Omega.{arith}
 use borrow.Author.Needs.{needs}
 use Rattle.transfer.proofs.Putting.{same-offered}
