@@ -4,9 +4,10 @@ use mathlib.Core.Path.{_≡_, refl, ap}
 use mathlib.Core.Bool.{Bool, true, false, cond, and-eq-true-iff}
 use mathlib.Core.List.{List, [], _∷_}
 use native.Mathlib.Numerals.{add-one}
+use native.Mathlib.Omega.{arith}
 use borrow.Author.Tests.{leb-true, ltb-true, eq-eqb, ne-eqb}
 use lib.Dec.{leb, ltb, eqb}
-use lib.ListN.{length, getD, drop, drop-of-length-le}
+use lib.ListN.{length, getD, drop, length-drop, drop-of-length-le}
 use lib.Seq.{drop-cons}
 use Rattle.kinds.specs.declared.Module.{Module}
 use Rattle.step.specs.declared.ModuleLine.the-variants.{Holds, Bad as Spoilt}
@@ -57,16 +58,26 @@ module _ (l : List ℕ) (i : ℕ) (h : i < length l) where
 pub field-done : (ks : List ℕ) (j : ℕ) (rest : List ℕ) → length ks ≤ j → readField (drop j ks) rest ≡ number rest
 field-done ks j rest h = rw (drop-of-length-le ks h)
 
-module _ (ks l : List ℕ) (j i : ℕ) where
-  pub field-end : j < length ks → length l ≤ i → readField (drop j ks) (drop i l) ≡ absent
-  field-end h k = rw (opened ks j h, drop-of-length-le l k)
+-- a line with no byte left behind the key has no number there
+pub field-end : (ks l : List ℕ) (i : ℕ) → length l ≤ i + length ks → readField ks (drop i l) ≡ absent
+field-end ks l i h = short ks (drop i l) (rw (length-drop i l) (omega arith))
+  where
+    short : (ks l : List ℕ) → length l ≤ length ks → readField ks l ≡ absent
+    short [] [] h = refl
+    short [] (b ∷ l) h = absurd (omega arith)
+    short (k ∷ ks) [] h = refl
+    short (k ∷ ks) (b ∷ l) h = go (eqb b k) (short ks l (omega arith))
+      where
+        go : (t : Bool) → readField ks l ≡ absent → cond t (readField ks l) absent ≡ absent
+        go true e = e
+        go false e = refl
 
-  pub field-other : j < length ks → i < length l → (getD l i 0 ≡ getD ks j 0 → ⊥) → readField (drop j ks) (drop i l) ≡ absent
-  field-other h k e = rw (opened ks j h, opened l i k, ne-eqb _ _ e)
+module _ (ks l : List ℕ) (i j : ℕ) (h : j < length ks) (k : i + j < length l) where
+  pub field-other : (getD l (i + j) 0 ≡ getD ks j 0 → ⊥) → readField (drop j ks) (drop (i + j) l) ≡ absent
+  field-other e = rw (opened ks j h, opened l (i + j) k, ne-eqb _ _ e)
 
-  pub field-same : j < length ks → i < length l → getD l i 0 ≡ getD ks j 0
-      → readField (drop j ks) (drop i l) ≡ readField (drop (j + 1) ks) (drop (i + 1) l)
-  field-same h k e = rw (opened ks j h, opened l i k, eq-eqb _ _ e)
+  pub field-same : getD l (i + j) 0 ≡ getD ks j 0 → readField (drop j ks) (drop (i + j) l) ≡ readField (drop (j + 1) ks) (drop (i + (j + 1)) l)
+  field-same e = let p : i + (j + 1) ≡ i + j + 1 = omega arith in rw (p, opened ks j h, opened l (i + j) k, eq-eqb _ _ e)
 
 -- texts of two lengths are not equal
 pub equal-lengths : (ks l : List ℕ) → (length l ≡ length ks → ⊥) → equal ks l ≡ false

@@ -77,23 +77,21 @@ fn number_at(line: &[u8], at: usize) -> Number
     digits_at(line, at + 1, wide(b - b'0'))
 }
 
-// The number that follows key at a place.
+// The number that follows key at a place. One test asks whether the line has room for the key and a digit behind it.
 pub fn field_at(line: &[u8], at: usize, key: &[u8]) -> Number
     ensures { λ r. ⌜ asTaken (now (line .entry)) r ≡ readField (now (key .entry)) (drop at (now (line .entry))) ⌝ }
 {
-    let mut i = at;
+    if line.len() <= at || line.len() - at <= key.len() {
+        return Number::Missing;
+    }
     let mut j = 0;
     while j < key.len() {
-        if line.len() <= i {
+        if line[at + j] != key[j] {
             return Number::Missing;
         }
-        if line[i] != key[j] {
-            return Number::Missing;
-        }
-        i += 1;
         j += 1;
     }
-    number_at(line, i)
+    number_at(line, at + j)
 }
 
 // The fields n, a and f of a line, given the first.

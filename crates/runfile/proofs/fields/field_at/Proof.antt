@@ -1,9 +1,11 @@
--- `fields::field_at` meets its contract: each turn reads one byte of the key, so that what is left of the key and of the line gives what
--- the whole of both gives.
-use Prim.Native.Nat.{_-_}
-use mathlib.Core.Path.{_≡_, refl, sym, _∙_}
+-- `fields::field_at` meets its contract: the test at the front leaves out the lines that end before or with the key. Each turn then reads one
+-- byte of the key, so that what is left of the key and of the line gives what the whole of both gives.
+use Prim.Native.Nat.{ℕ, _+_, _-_, _≤_, _<_}
+use mathlib.Core.Path.{_≡_, sym, ap, _∙_}
+use mathlib.Core.Logic.{⊎-elim}
 use native.Mathlib.Omega.{arith}
 use borrow.Author.Needs.{needs}
+use borrow.Author.Tests.{leb-true, leb-false}
 use lib.ListN.{length, drop}
 use Rattle.runfile.specs.Read.{readField}
 use Rattle.runfile.proofs.Turns.{field-done, field-end, field-other, field-same}
@@ -11,47 +13,37 @@ use Rattle.runfile.proofs.fields.field_at.Statement.{statement}
 use Rattle.runfile.proofs.fields.field_at.Tie as tie
 
 abbrev Inv-loop : tie.InvT-loop
-Inv-loop line at key i₀ j₀ i j = readField (drop j key) (drop i line) ≡ readField key (drop at line)
+Inv-loop line at key j₀ j = (j ≤ length key) × (at + length key < length line) × (readField (drop j key) (drop (at + j) line) ≡ readField key (drop at line))
 
 abbrev μ-loop : tie.MeasureT-loop
-μ-loop line at key i₀ j₀ i j = length key - j
-
-loop-holds : tie.Need-loop-holds Inv-loop μ-loop
-loop-holds c = refl
+μ-loop line at key j₀ j = length key - j
 
 returns : tie.Need-returns Inv-loop μ-loop
-returns c = sym (field-end _ _ _ _ (c .before .loop-test .taken) (c .if1 .taken)) ∙ c .before .before .loop .inv
+returns c =
+    let a = c .before .before .before .args in
+    ⊎-elim (λ p. let h = p .taken in sym (field-end (a .key .now) (a .line .now) (a .at) (omega (arith, h))))
+    (λ p. let h = leb-true (length (a .line .now) - a .at) (length (a .key .now)) (p .1 .taken) in sym (field-end (a .key .now) (a .line .now) (a .at) (omega (arith, h))))
+    (c .if1 .came)
 
-shared-slice-read-if2 : tie.Need-shared-slice-read-if2 Inv-loop μ-loop
-shared-slice-read-if2 c = search needs
-
-shared-slice-read-if2-2 : tie.Need-shared-slice-read-if2-2 Inv-loop μ-loop
-shared-slice-read-if2-2 c = search needs
+loop-holds : tie.Need-loop-holds Inv-loop μ-loop
+loop-holds c =
+    let a = c .before .before .before .before .args in
+    let e : a .at + 0 ≡ a .at = omega arith in
+    let h = leb-false (length (a .line .now) - a .at) (length (a .key .now)) (c .if2 .left) in
+    (omega arith, omega (arith, h), ap (λ (i : ℕ). readField (a .key .now) (drop i (a .line .now))) e)
 
 returns-2 : tie.Need-returns-2 Inv-loop μ-loop
 returns-2 c =
-    let turn = c .before .before .before .before in
-    sym (field-other _ _ _ _ (turn .loop-test .taken) (c .before .before .before .if1 .left) (c .if2 .taken)) ∙ turn .before .loop .inv
-
-add-i : tie.Need-add-i Inv-loop μ-loop
-add-i c = search needs
-
-add-j : tie.Need-add-j Inv-loop μ-loop
-add-j c = search needs
-
-loop-less : tie.Need-loop-less Inv-loop μ-loop
-loop-less c = omega arith
+    let turn = c .before .before .before in
+    sym (field-other _ _ _ _ (turn .loop-test .taken) (omega arith) (c .if3 .taken)) ∙ turn .before .loop .inv .2
 
 loop-again : tie.Need-loop-again Inv-loop μ-loop
 loop-again c =
-    let turn = c .before .before .before .before in
-    sym (field-same _ _ _ _ (turn .loop-test .taken) (c .before .before .before .if1 .left) (c .if2 .left)) ∙ turn .before .loop .inv
-
-number-at-requires : tie.Need-number-at-requires Inv-loop μ-loop
-number-at-requires c κs = tt
+    let turn = c .before .before .before in
+    (omega arith, turn .before .loop .inv .1, sym (field-same _ _ _ _ (turn .loop-test .taken) (omega arith) (c .if3 .left)) ∙ turn .before .loop .inv .2)
 
 returns-3 : tie.Need-returns-3 Inv-loop μ-loop
-returns-3 c = c .number-at .ensures ∙ (sym (field-done _ _ _ (c .before .loop-test .left)) ∙ c .before .before .loop .inv)
+returns-3 c = c .number-at .ensures ∙ (sym (field-done _ _ _ (c .before .loop-test .left)) ∙ c .before .before .loop .inv .2)
 
 pub field-at-spec : {M : Type 1} → statement M
 field-at-spec =
@@ -59,14 +51,12 @@ field-at-spec =
     (tie.spec
     Inv-loop
     μ-loop
-    loop-holds
+    (λ c. search needs)
     returns
-    shared-slice-read-if2
-    shared-slice-read-if2-2
+    loop-holds
+    (λ c. search needs) (λ c. search needs) (λ c. search needs)
     returns-2
-    add-i
-    add-j
-    loop-less
+    (λ c. search needs) (λ c. search needs)
     loop-again
-    number-at-requires
+    (λ c. search needs) (λ c κs. search needs)
     returns-3)
