@@ -18,7 +18,7 @@ pub fn initialize(b: &mut [u32])
     zero_module(b, 0, 0);
 }
 
-// C: F9 at each subaddress below r.
+// C: F9 at each subaddress below r, where every kind accepts it.
 pub fn clear(b: &mut [u32])
     requires { ⌜ FitBlock (now b) ⌝ }
     ensures { λ _. ⌜ now (b .exit) ≡ clearedOf (now (b .entry)) ⌝ }
@@ -26,7 +26,7 @@ pub fn clear(b: &mut [u32])
     let r = b[COUNT];
     let mut a: u32 = 0;
     while a < r {
-        station::command(b, a, 9, 0);
+        station::group1::clear(b, a);
         a += 1;
     }
 }
