@@ -1,13 +1,17 @@
 // Calls the open calls with what no file can lend: crates that are not fit, too few words, buffers whose words show what is left alone, buffer memories with
-// any head. Standard input says what is lent and called, line by line; cases.md says what each case shows and why its numbers are these.
+// any head; and the reader with more lines than it reads. Standard input says what is lent and called, line by line; cases.md says what each case shows and why
+// its numbers are these.
 use controller::Answer;
 use libc::STDIN_FILENO;
 use libc::STDOUT_FILENO;
+use reader::Reader;
 use step::Reading;
 use step::Refusal;
 use step::Verdict;
+ghost use mathlib.Core.Path.{_≡_};
 ghost use Prim.Native.Nat.{_≤_};
 ghost use lib.ListN.{length};
+ghost use Rattle.reader.specs.Reading.{Held};
 
 // The stored input fits.
 const ROOM: usize = 16384;
@@ -37,6 +41,11 @@ const ONE_BUFFER: usize = 16;
 
 // More than any put offers.
 const LONG_BUFFER: usize = 600;
+
+// A long run file begins with so many parts of so many empty lines, 99,996 in all.
+const PARTS: usize = 52;
+
+const PART_LINES: usize = 1923;
 
 // What answers and buffers hold before a call, so that it shows which words the call stores.
 const MARK: u32 = 77;
@@ -370,6 +379,71 @@ fn module(case: u32, memory: &[u32], previous: u32, n: u32, line: &[u8]) {
     end_line();
 }
 
+// ---- a run file of more lines than are read
+// The same place in a file, with nothing in the output buffer.
+fn anew(s: Reader) -> Reader
+    ensures { λ r. ⌜ (r .fill ≡ s .fill) × (r .at ≡ 0) ⌝ }
+{
+    Reader {
+        fill: s.fill,
+        number: s.number,
+        phase: s.phase,
+        previous: s.previous,
+        at: 0,
+    }
+}
+
+// Takes a part of a run file. What was printed of the parts before it is dropped.
+fn take_part(text: &[u8], s: Reader, line: &mut [u8], memory: &mut [u32], out: &mut [u8]) -> Reader
+    requires { ⌜ Held s (now line) (now memory) (now out) ⌝ }
+    ensures { λ r. ⌜ Held r (now (line .exit)) (now (memory .exit)) (now (out .exit)) ⌝ }
+{
+    let p = reader::chunk_lines(text, anew(s), line, memory, out);
+    p.reader
+}
+
+// Takes the same part again and again.
+fn take_parts(text: &[u8], s: Reader, line: &mut [u8], memory: &mut [u32], out: &mut [u8]) -> Reader
+    requires { ⌜ Held s (now line) (now memory) (now out) ⌝ }
+    ensures { λ r. ⌜ Held r (now (line .exit)) (now (memory .exit)) (now (out .exit)) ⌝ }
+{
+    let mut r = s;
+    for i in 0..PARTS {
+        r = take_part(text, r, line, memory, out);
+    }
+    r
+}
+
+// What is printed from line 99,997 of a run file on. The first scan is read where it stands, since 81 bytes follow, the others by way of the line buffer.
+fn long_run(case: u32) {
+    let empty = [b'\n'; PART_LINES];
+    let mut line = [0u8; 81];
+    let mut memory = [0u32; 768];
+    let mut out = io::large_buffer();
+    let start = Reader {
+        fill: 0,
+        number: 0,
+        phase: 1,
+        previous: 0,
+        at: 0,
+    };
+    let most = take_parts(&empty, start, &mut line, &mut memory, &mut out);
+    let past = take_part(
+        b"\n\nop=z\nop=scan n=1 a=0 f=0 to=23 limit=8\nop=scan n=1 a=0 f=0 to=23 limit=8\nop=scan n=1 a=0 f=0 to=23 limit=8\nop=z",
+        most,
+        &mut line,
+        &mut memory,
+        &mut out,
+    );
+    let at = past.at;
+    show(b"case=", case);
+    end_line();
+    io::write_all(STDOUT_FILENO, &out[..at]);
+    let last = reader::finish(anew(past), &line, &mut memory, &mut out);
+    let end = last.at;
+    io::write_all(STDOUT_FILENO, &out[..end]);
+}
+
 // ---- the lines of standard input
 // The count of steps: its lower 32 bits stand in number 2, the upper in number 7.
 fn count_of(numbers: &[u32]) -> usize {
@@ -420,6 +494,9 @@ fn do_call(op: u8, numbers: &[u32], text: &[u8], memory: &mut [u32], steps: &[u3
         }
         b'C' => {
             module(case, memory, word(numbers, 2), word(numbers, 3), text);
+        }
+        b'N' => {
+            long_run(case);
         }
         _ => {}
     }
