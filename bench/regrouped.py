@@ -9,7 +9,7 @@ Ends with 0 when every output is the same, 1 when one differs, 2 when it cannot 
 
 Written from document 01 and requests L1 and L7 of document 02 alone. A line of a file is a step. The verdict comes from trying the rearrangements one by one; the lines before it from
 the steps that touch each station, in order, and from how often each refusal number comes. Neighbouring stations that part alike are one line.
-What is said on standard error is compared too.
+Where all lines of a file are refused there is no verdict. What is said on standard error is compared too.
 """
 import os
 import random
@@ -184,25 +184,41 @@ def report(first, second):
 # ---- what standard error says
 
 
-def said_of(name, data):
-    """What is said of a file, None where it is missing: the second answer is whether there can be a verdict."""
+def unread(name, data):
+    """What is said of a file that is not read whole, None where it is missing."""
     if data is None:
-        return "%s is missing; no verdict\n" % name, False
-    steps = steps_of(data)
-    if len(steps) > LAST_LINE:
-        return "%s has lines past 99,999; no verdict\n" % name, False
+        return "%s is missing; no verdict\n" % name
+    if len(steps_of(data)) > LAST_LINE:
+        return "%s has lines past 99,999; no verdict\n" % name
+    return ""
+
+
+def of_refused(name, steps):
+    """What is said of a file's refused lines, and whether all of its lines are refused."""
     refused = sum(1 for step in steps if step.refused)
-    if refused:
-        return "%s: %d of %d lines are refused; refused lines are compared by their number\n" % (name, refused, len(steps)), True
-    return "", True
+    if not refused:
+        return "", False
+    only = refused == len(steps)
+    so = "no verdict" if only else "refused lines are compared by their number"
+    return "%s: %d of %d lines are refused; %s\n" % (name, refused, len(steps), so), only
+
+
+def said_of(pair):
+    """What is said on standard error, and whether there is a verdict."""
+    lost = "".join(unread(name, data) for name, data in zip(NAMES, pair))
+    if lost:
+        return lost, False
+    told = [of_refused(name, steps_of(data)) for name, data in zip(NAMES, pair)]
+    mute = "".join(text for text, only in told if only)
+    if mute:
+        return mute, False
+    return "".join(text for text, _ in told), True
 
 
 def outcome(pair):
     """What the program prints, and what it says on standard error."""
-    told = [said_of(name, data) for name, data in zip(NAMES, pair)]
-    if not all(whole for _, whole in told):
-        return b"", "".join(text for text, whole in told if not whole).encode()
-    return report(steps_of(pair[0]), steps_of(pair[1])), "".join(text for text, _ in told).encode()
+    said, verdict = said_of(pair)
+    return report(steps_of(pair[0]), steps_of(pair[1])) if verdict else b"", said.encode()
 
 
 # ---- random pairs
@@ -330,12 +346,13 @@ def changed(rng, lines, stations):
     return lines
 
 
-def file_bytes(rng, lines):
+def file_bytes(rng, lines, crlf):
     if rng.random() < 0.01:
         return None
-    text = "\n".join(lines)
+    end = "\r\n" if crlf else "\n"
+    text = end.join(lines)
     if lines and rng.random() < 0.8:
-        text += "\n"
+        text += end
     return text.encode("latin-1")
 
 
@@ -352,7 +369,8 @@ def random_pair(rng):
         second = lawful(rng, first) if pick < 0.9 else first
         for _ in range(rng.choice([0, 0, 0, 1, 1, 2])):
             second = changed(rng, second, stations)[:7]
-    return file_bytes(rng, first), file_bytes(rng, second)
+    crlf = rng.random()
+    return file_bytes(rng, first, crlf < 0.04), file_bytes(rng, second, 0.02 < crlf < 0.06)
 
 
 # ---- the program
@@ -453,7 +471,7 @@ def main():
                 start = time.perf_counter()
                 said = run(program, folder)
                 times.append(time.perf_counter() - start)
-            if said[0] != expected.encode() or said[1] != b"".join(said_of(*each)[0].encode() for each in zip(NAMES, pair)):
+            if said[0] != expected.encode() or said[1] != said_of(pair)[0].encode():
                 show(pair, expected, said)
                 print("the large pair '%s' differs" % name)
                 return 1

@@ -1,11 +1,11 @@
-// Two run files, read, compared and reported on standard output. Where one of them is not read whole there is no verdict.
+// Two run files, read, compared and reported on standard output. Where one of them is not read whole, or has lines and all of them are refused, there is no
+// verdict.
 ghost use mathlib.Core.Path.{_≡_};
 ghost use Prim.Native.Nat.{_≤_};
 ghost use lib.ListN.{length, take};
 ghost use Rattle.text.specs.Paste.{Put};
-ghost use Rattle.verdict.specs.Counted.{count};
-ghost use Rattle.report.specs.Report.{PutReport};
-ghost use Rattle.regrouping.specs.Files.{refusedText, Answered};
+ghost use Rattle.verdict.specs.Counted.{count, refusedIn};
+ghost use Rattle.regrouping.specs.Files.{heard, PutAnswer, Answered, refusedText};
 use libc::STDERR_FILENO;
 use lists::STEP_WORDS;
 use shell::Told;
@@ -19,6 +19,9 @@ fn put_refused(out: &mut [u8], many: u32, all: u32) -> usize
 {
     let of = put_field(out, 0, b": ", many);
     let at = put_field(out, of, b" of ", all);
+    if many == all {
+        return put_bytes(out, at, b" lines are refused; no verdict\n");
+    }
     put_bytes(
         out,
         at,
@@ -27,21 +30,53 @@ fn put_refused(out: &mut [u8], many: u32, all: u32) -> usize
 }
 
 // Says how many lines of a file are refused, if any are.
-fn say_refused(path: &[u8], words: &[u32])
-    requires { ⌜ count (now words) ≤ 99999 ⌝ }
-{
-    let many = verdict::refused(words);
+fn say_refused(path: &[u8], many: u32, all: u32) {
     if many == 0 {
         return;
     }
-    let all = words.len() / STEP_WORDS;
     let mut said = [0u8; 128];
-    let end = put_refused(&mut said, many as u32, all as u32);
+    let end = put_refused(&mut said, many, all);
     io::write_all(STDERR_FILENO, path);
     io::write_all(STDERR_FILENO, &said[..end]);
 }
 
-// Prints the report on two lists, and says how many lines are refused.
+// How many lines of a file are refused, of how many; heard unless it has lines and all of them are refused.
+struct Lines {
+    refused: u32,
+    all: u32,
+    heard: bool,
+}
+
+// Counts the refused lines of a file. Where it is not heard, says so.
+fn hear(path: &[u8], words: &[u32]) -> Lines
+    requires { ⌜ count (now words) ≤ 99999 ⌝ }
+    ensures { λ r. ⌜ (r .refused ≡ refusedIn (now (words .entry))) × (r .all ≡ count (now (words .entry))) × (r .heard ≡ heard (now (words .entry))) ⌝ }
+{
+    let refused = verdict::refused(words) as u32;
+    let all = (words.len() / STEP_WORDS) as u32;
+    if all == 0 {
+        return Lines {
+            refused: refused,
+            all: all,
+            heard: true,
+        };
+    }
+    if refused < all {
+        return Lines {
+            refused: refused,
+            all: all,
+            heard: true,
+        };
+    }
+    say_refused(path, refused, all);
+    Lines {
+        refused: refused,
+        all: all,
+        heard: false,
+    }
+}
+
+// Prints the report on two lists, if both are heard, and says how many lines are refused.
 fn tell(
     first_path: &[u8],
     first: &[u32],
@@ -50,10 +85,18 @@ fn tell(
     out: &mut [u8],
 ) -> Told
     requires { ⌜ (count (now first) ≤ 99999) × (count (now second) ≤ 99999) × (4096 ≤ length (now out)) ⌝ }
-    ensures { λ r. ⌜ PutReport (now (first .entry)) (now (second .entry)) (now (out .entry)) (now (out .exit)) (r .at) ⌝ }
+    ensures { λ r. ⌜ PutAnswer (now (first .entry)) (now (second .entry)) (now (out .entry)) (now (out .exit)) (r .at) ⌝ }
 {
-    say_refused(first_path, first);
-    say_refused(second_path, second);
+    let old = hear(first_path, first);
+    let new = hear(second_path, second);
+    if !old.heard {
+        return Told { ok: true, at: 0 };
+    }
+    if !new.heard {
+        return Told { ok: true, at: 0 };
+    }
+    say_refused(first_path, old.refused, old.all);
+    say_refused(second_path, new.refused, new.all);
     let at = report::put_report(first, second, out);
     shell::write_out(out, at, b"the report")
 }

@@ -1,11 +1,11 @@
--- `compare_files` meets its contract: where a list is not whole nothing is told; else the report of the words is that of the files (`reported`).
+-- `compare_files` meets its contract: where a list is not whole nothing is told; else what is told of the words is told of the files (`answered`).
 use native.Mathlib.Omega.{arith}
 use Prim.Native.Nat.{_*_}
-use mathlib.Core.Logic.{inl, inr}
+use mathlib.Core.Logic.{inl}
 use mathlib.Core.Path.{refl, sym}
 use lib.Seq.{length-take-le}
 use borrow.Author.Tests.{not-false}
-use Rattle.regrouping.proofs.FilesLaws.{stored-words, stored-count, reported}
+use Rattle.regrouping.proofs.FilesLaws.{stored-words, stored-count, answered}
 use borrow.Author.Needs.{needs}
 use Rattle.regrouping.proofs.compare_files.Statement.{statement}
 use Rattle.regrouping.proofs.compare_files.Tie as tie
@@ -76,8 +76,8 @@ returns-3 c =
     let new = (far .take-list2) in
     let if1 = (c .before .before .before .before .before .before .before .before .before .before .if1) in
     let if2 = (c .before .before .before .before .before .before .before .before .if2) in
-    inr (reported (old .ensures (not-false (old .result .whole) (if1 .left))) (new .ensures (not-false (new .result .whole) (if2 .left)))
-    (c .before .before .tell .ensures))
+    answered (old .ensures (not-false (old .result .whole) (if1 .left))) (new .ensures (not-false (new .result .whole) (if2 .left)))
+    (c .before .before .tell .ensures)
 
 pub compare-files-spec : {M : Type 1} → statement M
 compare-files-spec =

