@@ -3,7 +3,6 @@ ghost use Prim.Native.Nat.{_+_, _≤_, _<_};
 ghost use lib.ListN.{length};
 ghost use Rattle.text.specs.Paste.{Put};
 ghost use Rattle.classes.specs.Table.{lineOf, kindText, tableText};
-use libc::STDOUT_FILENO;
 use text::put_bytes;
 use text::put_field;
 
@@ -48,7 +47,14 @@ fn put_table(out: &mut [u8]) -> usize
 }
 
 fn main() {
+    if os::arg_count() > 1 {
+        io::write_all(
+            libc::STDERR_FILENO,
+            b"usage: classes    prints the table of acceptance classes; it takes no argument\n",
+        );
+        return;
+    }
     let mut out = io::buffer();
     let n = put_table(&mut out);
-    io::write_all(STDOUT_FILENO, &out[..n]);
+    shell::write_out(&out, n, b"the table");
 }
