@@ -13,14 +13,11 @@ fn main() {
     let files = shell::files_named(
         b"run.txt",
         b"regrouped.txt",
+        b"usage: regrouped                 compares regrouped.txt with run.txt in the current folder\n       regrouped FIRST SECOND    compares the second file with the first; a file -x is named ./-x\n",
         &mut first_path,
         &mut second_path,
     );
     if !files.ok {
-        io::write_all(
-            libc::STDERR_FILENO,
-            b"usage: regrouped                 compares regrouped.txt with run.txt in the current folder\n       regrouped FIRST SECOND    compares the second file with the first; a file -x is named ./-x\n",
-        );
         return;
     }
     let m = files.first;

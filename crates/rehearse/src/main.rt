@@ -6,12 +6,14 @@ fn main() {
     let mut out = io::large_buffer();
     let mut crate_path = io::buffer();
     let mut run_path = io::buffer();
-    let files = shell::files_named(b"crate.txt", b"run.txt", &mut crate_path, &mut run_path);
+    let files = shell::files_named(
+        b"crate.txt",
+        b"run.txt",
+        b"usage: rehearse              reads crate.txt and run.txt in the current folder\n       rehearse CRATE RUN    reads the two files named; a file -x is named ./-x\n",
+        &mut crate_path,
+        &mut run_path,
+    );
     if !files.ok {
-        io::write_all(
-            libc::STDERR_FILENO,
-            b"usage: rehearse              reads crate.txt and run.txt in the current folder\n       rehearse CRATE RUN    reads the two files named; a file -x is named ./-x\n",
-        );
         return;
     }
     let m = files.first;

@@ -37,7 +37,13 @@ fn without_arguments() {
     io::write_all(STDOUT_FILENO, b"case=usual\n");
     let mut crate_path = io::buffer();
     let mut run_path = io::buffer();
-    let files = shell::files_named(b"crate.txt", b"run.txt", &mut crate_path, &mut run_path);
+    let files = shell::files_named(
+        b"crate.txt",
+        b"run.txt",
+        b"usage: vectors    takes no argument\n",
+        &mut crate_path,
+        &mut run_path,
+    );
     if files.ok {
         let m = files.first;
         let n = files.second;

@@ -15,7 +15,7 @@ array-share-prefix-first-path c = let named = (c .before .before .before .before
 
 slice-aggregate-compare-files : tie.Need-slice-aggregate-compare-files
 slice-aggregate-compare-files c = let named = (c .before .before .before .before .before .files-named) in
-    sym (length-take-le (named .result .first) (named .last .1 .1 .0) (named .ensures (not-false (named .result .ok) (c .before .if1 .left)) .first-within))
+    sym (length-take-le (named .result .first) (named .last .1 .1 .1 .0) (named .ensures (not-false (named .result .ok) (c .before .if1 .left)) .first-within))
 
 array-share-prefix-second-path : tie.Need-array-share-prefix-second-path
 array-share-prefix-second-path c = let named = (c .before .before .before .before .before .files-named) in
@@ -23,7 +23,7 @@ array-share-prefix-second-path c = let named = (c .before .before .before .befor
 
 slice-aggregate-compare-files-2 : tie.Need-slice-aggregate-compare-files-2
 slice-aggregate-compare-files-2 c = let named = (c .before .before .before .before .before .before .files-named) in
-    sym (length-take-le (named .result .second) (named .last .1 .1 .1 .0) (named .ensures (not-false (named .result .ok) (c .before .before .if1 .left)) .second-within))
+    sym (length-take-le (named .result .second) (named .last .1 .1 .1 .1 .0) (named .ensures (not-false (named .result .ok) (c .before .before .if1 .left)) .second-within))
 
 slice-aggregate-compare-files-5 : tie.Need-slice-aggregate-compare-files-5
 slice-aggregate-compare-files-5 c = sym (length-replicate {A = ℕ} 599994 0)
@@ -33,7 +33,7 @@ slice-aggregate-compare-files-6 c = sym (length-replicate {A = ℕ} 599994 0)
 
 compare-files-requires : tie.Need-compare-files-requires
 compare-files-requires c κs =
-    let buffer = (c .before .before .before .before .before .before .before .before .before .before .before .before .before .before .before .before .before .before .buffer) in
+    let buffer = (c .before .before .before .before .before .before .before .before .before .before .before .before .before .before .before .before .before .before .before .buffer) in
     (length-replicate {A = ℕ} 81 0, length-replicate {A = ℕ} 599994 0, length-replicate {A = ℕ} 599994 0, le-of-eq (buffer .ensures))
 
 pub main-spec : {M : Type 1} → statement M
@@ -41,7 +41,7 @@ main-spec =
     tie.close
     (tie.spec
     (λ c κs. search needs) (λ c κs. search needs) (λ c κs. search needs) (λ c κs. search needs) (λ c. search needs) (λ c. search needs)
-    (λ c. search needs) (λ c. search needs) (λ c κs. search needs) (λ c. search needs) (λ c κs. search needs) (λ c. search needs)
+    (λ c. search needs) (λ c. search needs) (λ c. search needs) (λ c κs. search needs) (λ c. search needs)
     array-share-prefix-first-path
     slice-aggregate-compare-files
     array-share-prefix-second-path

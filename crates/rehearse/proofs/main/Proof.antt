@@ -12,7 +12,7 @@ array-share-prefix-crate-path c = let named = (c .before .before .before .before
 
 slice-aggregate-rehearse : tie.Need-slice-aggregate-rehearse
 slice-aggregate-rehearse c = let named = (c .before .before .before .before .before .files-named) in
-    sym (length-take-le (named .result .first) (named .last .1 .1 .0) (named .ensures (not-false (named .result .ok) (c .before .if1 .left)) .first-within))
+    sym (length-take-le (named .result .first) (named .last .1 .1 .1 .0) (named .ensures (not-false (named .result .ok) (c .before .if1 .left)) .first-within))
 
 array-share-prefix-run-path : tie.Need-array-share-prefix-run-path
 array-share-prefix-run-path c = let named = (c .before .before .before .before .before .files-named) in
@@ -20,14 +20,14 @@ array-share-prefix-run-path c = let named = (c .before .before .before .before .
 
 slice-aggregate-rehearse-2 : tie.Need-slice-aggregate-rehearse-2
 slice-aggregate-rehearse-2 c = let named = (c .before .before .before .before .before .before .files-named) in
-    sym (length-take-le (named .result .second) (named .last .1 .1 .1 .0) (named .ensures (not-false (named .result .ok) (c .before .before .if1 .left)) .second-within))
+    sym (length-take-le (named .result .second) (named .last .1 .1 .1 .1 .0) (named .ensures (not-false (named .result .ok) (c .before .before .if1 .left)) .second-within))
 
 pub main-spec : {M : Type 1} → statement M
 main-spec =
     tie.close
     (tie.spec
     (λ c κs. search needs) (λ c κs. search needs) (λ c κs. search needs) (λ c κs. search needs) (λ c. search needs) (λ c. search needs)
-    (λ c. search needs) (λ c. search needs) (λ c κs. search needs) (λ c. search needs) (λ c κs. search needs) (λ c. search needs)
+    (λ c. search needs) (λ c. search needs) (λ c. search needs) (λ c κs. search needs) (λ c. search needs)
     array-share-prefix-crate-path
     slice-aggregate-rehearse
     array-share-prefix-run-path

@@ -21,12 +21,12 @@ returns-3 : tie.Need-returns-3
 returns-3 c = λ e. absurd (true≢false (sym e))
 
 returns-4 : tie.Need-returns-4
-returns-4 c = let one = (c .before .before .before .before .before .before .before .take-name) in
-    let two = (c .before .before .before .take-name2) in
+returns-4 c = let one = (c .before .before .before .before .before .before .before .before .take-name) in
+    let two = (c .before .before .take-name2) in
     λ e. record {
       first-within = one .ensures .within;
       second-within = two .ensures .within;
-      names = inr (omega (arith, c .if3 .left), one .ensures, ltb-true 0 (two .result) e, two .ensures);
+      names = inr (omega (arith, c .before .before .before .before .before .if3 .left), one .ensures, ltb-true 0 (two .result) e, two .ensures);
     }
 
 pub files-named-spec : {M : Type 1} → statement M
@@ -35,8 +35,9 @@ files-named-spec =
     (tie.spec
     (λ c κs. search needs) (λ c κs. search needs) (λ c κs. search needs) (λ c. search needs) (λ c. search needs)
     returns
+    (λ c κs. search needs)
     returns-2
-    (λ c κs. search needs) (λ c κs. search needs) (λ c. search needs) (λ c. search needs)
+    (λ c. search needs) (λ c κs. search needs) (λ c. search needs)
     returns-3
-    (λ c. search needs) (λ c. search needs)
+    (λ c. search needs) (λ c κs. search needs) (λ c. search needs) (λ c. search needs)
     returns-4)
