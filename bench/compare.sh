@@ -1,7 +1,7 @@
 #!/usr/bin/env bash
 # Compares the proved program with the plain C program, byte for byte, and times both; C once with the C library's input and output, once with its own.
 #   bench/compare.sh [PROGRAM [RUNS [FOLDERS [FIRST]]]]
-# PROGRAM  the proved program; target/bin/rehearse in the repository if not given
+# PROGRAM  the proved program; if not given, target/bin/rehearse in the repository, built anew where the sources have changed
 # RUNS     timed runs of each program on each large folder (40)
 # FOLDERS  small random folders (1000)
 # FIRST    their first seed (1)

@@ -2,7 +2,7 @@
 """Compares the program regrouped with a search of all rearrangements, on random pairs of run files, and times it on large ones.
 
 regrouped.py [PROGRAM [COUNT [SEED]]]
-PROGRAM  the program; target/bin/regrouped in the repository if not given
+PROGRAM  the program; if not given, target/bin/regrouped in the repository, built anew where the sources have changed
 COUNT    random pairs (2000)
 SEED     of the first of them (1)
 Ends with 0 when every output is the same, 1 when one differs, 2 when it cannot start.
@@ -446,8 +446,11 @@ def main():
     if len(numbers) > 2 or not all(re.fullmatch("[0-9]{1,9}", number) for number in numbers):
         print("usage: regrouped.py [PROGRAM [COUNT [SEED]]]", file=sys.stderr)
         return 2
+    if not arguments and subprocess.run([os.path.join(root, "build.sh"), "regrouped"]).returncode != 0:
+        print("regrouped.py: the program does not build", file=sys.stderr)
+        return 2
     if not (os.path.isfile(program) and os.access(program, os.X_OK)):
-        print("regrouped.py: no program at %s; build it, or give its path" % program, file=sys.stderr)
+        print("regrouped.py: no program at %s" % program, file=sys.stderr)
         return 2
     count, seed = [int(number) for number in numbers] + [2000, 1][len(numbers) :]
     lawful_pairs = 0
