@@ -63,7 +63,7 @@ done
 
 command -v rt >/dev/null || fail "not built from these sources:$stale; and rt, the command of the Rattle kit, which builds it, is not on the path"
 [ "$(rt version)" = "$kit" ] || echo "build.sh: this kit is $(rt version); README's figures and the gate are of $kit" >&2
-echo "build.sh: building$stale and proving what it rests on; this may take some minutes" >&2
+echo "build.sh: building$stale, with the proof of all that it rests on; this may take some minutes" >&2
 mkdir -p target/built || fail "no folder $root/target/built"
 for name in $stale; do
     case $name in library) set -- staticlib capi ;; *) set -- check "$name" ;; esac
