@@ -15,7 +15,8 @@ slice-aggregate-write-all c = sym (length-take-le _ _ (omega (arith, (c .before 
 
 finish-requires : tie.Need-finish-requires
 finish-requires c κs =
-    let held = (c .before .before .before .before .before .before .before .before .before .before .before .before .take-part .ensures) in record { filled = omega (arith, held .filled); lined = held .lined; room = omega arith; fit = held .fit }
+    let held = (c .before .before .before .before .before .before .before .before .before .before .before .before .take-part .ensures) in
+    record { filled = omega (arith, held .filled); lined = held .lined; room = omega arith; fit = held .fit }
 
 slice-aggregate-write-all-2 : tie.Need-slice-aggregate-write-all-2
 slice-aggregate-write-all-2 c = sym (length-take-le _ _ (omega (arith, (c .before .before .before .finish .ensures .1 .within))))

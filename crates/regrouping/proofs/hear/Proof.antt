@@ -9,16 +9,24 @@ use Rattle.regrouping.proofs.hear.Statement.{statement}
 use Rattle.regrouping.proofs.hear.Tie as tie
 
 cast-refused : tie.Need-cast-refused
-cast-refused c = let words = (c .before .before .before .args) .words .now in omega (arith, (c .refused .ensures), refused-few words (count words), (c .before .before .before .pre))
+cast-refused c =
+    let words = c .before .before .before .args .words .now in
+    omega (arith, c .refused .ensures, refused-few words (count words), c .before .before .before .pre)
 
 returns : tie.Need-returns
-returns c = ((c .before .refused .ensures), refl, sym (heard-none ((c .before .before .before .before .args) .words .now) (c .if1 .taken)))
+returns c = (c .before .refused .ensures, refl, sym (heard-none (c .before .before .before .before .args .words .now) (c .if1 .taken)))
 
 returns-2 : tie.Need-returns-2
-returns-2 c = ((c .before .before .refused .ensures), refl, sym (heard-some ((c .before .before .before .before .before .args) .words .now) (omega (arith, (c .before .before .refused .ensures), (c .if2 .taken)))))
+returns-2 c =
+    let words = c .before .before .before .before .before .args .words .now in
+    let many = c .before .before .refused .ensures in
+    (many, refl, sym (heard-some words (omega (arith, many, c .if2 .taken))))
 
 returns-3 : tie.Need-returns-3
-returns-3 c = ((c .before .before .before .refused .ensures), refl, sym (unheard ((c .before .before .before .before .before .before .args) .words .now) (c .before .before .if1 .left) (omega (arith, (c .before .before .before .refused .ensures), (c .before .if2 .left)))))
+returns-3 c =
+    let words = c .before .before .before .before .before .before .args .words .now in
+    let many = c .before .before .before .refused .ensures in
+    (many, refl, sym (unheard words (c .before .before .if1 .left) (omega (arith, many, c .before .if2 .left))))
 
 pub hear-spec : {M : Type 1} → statement M
 hear-spec =

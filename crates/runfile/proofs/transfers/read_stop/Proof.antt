@@ -11,7 +11,9 @@ returns : tie.Need-returns
 unfolding stopLine
 returns c =
     let line = c .before .before .before .before .before .before .args .line .now in
-    let head = headed line (c .before .before .before .field-at .result) (c .before .before .head-of .result) (bytes "op=stop n=") (c .before .before .before .field-at .ensures) (c .before .before .head-of .ensures) in
+    let first = c .before .before .before .field-at in
+    let rest = c .before .before .head-of in
+    let head = headed line (first .result) (rest .result) (bytes "op=stop n=") (first .ensures) (rest .ensures) in
     rw (was-headless line _ head (c .enum-told .given .1))
 
 returns-2 : tie.Need-returns-2
@@ -19,7 +21,9 @@ unfolding stopLine
 returns-2 c =
     let n = c .before .before .before .before .before in
     let line = n .before .before .before .before .before .before .args .line .now in
-    let head = headed line (n .before .before .before .field-at .result) (n .before .before .head-of .result) (bytes "op=stop n=") (n .before .before .before .field-at .ensures) (n .before .before .head-of .ensures) in
+    let first = n .before .before .before .field-at in
+    let rest = n .before .before .head-of in
+    let head = headed line (first .result) (rest .result) (bytes "op=stop n=") (first .ensures) (rest .ensures) in
     rw (
       was-heads line _ head (n .n .given .1),
       was-absent line _ (c .before .before .field-at2 .ensures) (c .enum-told2 .given .1),
@@ -31,7 +35,9 @@ returns-3 c =
     let limit = c .before .before in
     let n = limit .before .before .before .before .before in
     let line = n .before .before .before .before .before .before .args .line .now in
-    let head = headed line (n .before .before .before .field-at .result) (n .before .before .head-of .result) (bytes "op=stop n=") (n .before .before .before .field-at .ensures) (n .before .before .head-of .ensures) in
+    let first = n .before .before .before .field-at in
+    let rest = n .before .before .head-of in
+    let head = headed line (first .result) (rest .result) (bytes "op=stop n=") (first .ensures) (rest .ensures) in
     c .end-at .ensures ∙ rw (
       was-heads line _ head (n .n .given .1),
       was-taken line _ (limit .before .before .field-at2 .ensures) (limit .limit .given .1),

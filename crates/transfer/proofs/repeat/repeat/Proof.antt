@@ -113,8 +113,10 @@ loop-again c =
     let x = c .before .before .before .before .before .before .before .cycle in
     let d = made (x .ensures .0) (x .ensures .1) (omega (arith, p)) (omega (arith, p)) (omega (arith, p)) in
     let g = c .before .before .before .before .before .before .before .before .before .before .loop .inv .0 in
-    let s = c .before .before .before .before .before .before .before .before .before .before .loop .inv .1 in
-    (repeating-hit g (omega (arith, p)) d (omega (arith, p)) (c .before .before .before .if1 .left) (c .before .if2 .taken) (c .if3 .left), still-accepts (g .lent) d (c .before .before .before .before .before .before .before .before .before .before .before .accepted .result) s)
+    let s = c .before .before .before .before .before .before .before .before .before .before .loop .inv .1 in (
+      repeating-hit g (omega (arith, p)) d (omega (arith, p)) (c .before .before .before .if1 .left) (c .before .if2 .taken) (c .if3 .left),
+      still-accepts (g .lent) d (c .before .before .before .before .before .before .before .before .before .before .before .accepted .result) s,
+    )
 
 loop-less-2 : tie.Need-loop-less-2 Inv-loop μ-loop
 loop-less-2 c = omega arith
@@ -126,8 +128,10 @@ loop-again-2 c =
     let x = c .before .before .before .before .before .before .cycle in
     let d = made (x .ensures .0) (x .ensures .1) (omega (arith, p)) (omega (arith, p)) (omega (arith, p)) in
     let g = c .before .before .before .before .before .before .before .before .before .loop .inv .0 in
-    let s = c .before .before .before .before .before .before .before .before .before .loop .inv .1 in
-    (repeating-miss g (omega (arith, p)) d (omega (arith, p)) (c .before .before .if1 .left) (c .if2 .left), still-accepts (g .lent) d (c .before .before .before .before .before .before .before .before .before .before .accepted .result) s)
+    let s = c .before .before .before .before .before .before .before .before .before .loop .inv .1 in (
+      repeating-miss g (omega (arith, p)) d (omega (arith, p)) (c .before .before .if1 .left) (c .if2 .left),
+      still-accepts (g .lent) d (c .before .before .before .before .before .before .before .before .before .before .accepted .result) s,
+    )
 
 same-length-5 : tie.Need-same-length-5 Inv-loop μ-loop
 same-length-5 c = c .before .loop .inv .0 .lent .size

@@ -76,8 +76,11 @@ loop-again c =
     let p = c .before .before .before .before .before .before .before .before .before .before .before .before .before .before .before .pre .1 in
     let x = c .before .before .before .before .before .before .cycle in
     let d = made (x .ensures .0) (x .ensures .1) (omega (arith, p)) (omega (arith, p)) (omega (arith, p)) in
-    let l = c .before .before .before .before .before .before .before .before .loop .inv in
-    (go-more (l .0) (omega (arith, p)) (omega (arith, p)) d (c .before .before .if1 .left) (c .before .if2 .left) (c .if3 .left), l .1, still-accepts (l .0 .lent) d (c .before .before .before .before .before .before .before .before .before .accepted .result) (l .2))
+    let l = c .before .before .before .before .before .before .before .before .loop .inv in (
+      go-more (l .0) (omega (arith, p)) (omega (arith, p)) d (c .before .before .if1 .left) (c .before .if2 .left) (c .if3 .left),
+      l .1,
+      still-accepts (l .0 .lent) d (c .before .before .before .before .before .before .before .before .before .accepted .result) (l .2),
+    )
 
 add-station : tie.Need-add-station Inv-loop μ-loop Inv-stations μ-stations
 add-station c = omega arith
