@@ -1,6 +1,6 @@
 /* pagontxu.h: a rehearsal of a CAMAC crate, for programs in C, Fortran or Python.
  *
- * The rules are those of document 01, "The CAMAC rehearsal crate", and of document 02, requests L1 to L7; docs/RULES.md has them, numbered. Each function is
+ * The rules are those of document 01, "The CAMAC rehearsal crate", and of document 02, requests L1 to L8; docs/RULES.md has them, numbered. Each function is
  * proved to return and to leave what its definition in crates/capi/specs/Calls.antt says, for any contents and any lengths of the arrays that it is lent.
  *
  * Build the archive with `./build.sh library` and link target/staticlib/libcapi.a (x86-64 Linux). The library keeps no state, allocates nothing
@@ -44,6 +44,7 @@
  *   9 stop    n a f limit         Stop
  *  10 put     n a to limit w      a put of one word: w, `limit` times; it needs no buffer
  *  11         n a to limit        a put of lent words: the first `limit` words of the buffer; a run file has no line for it
+ *  17 to 19   fields of 7 to 9    scan, Repeat and Stop at the trigger processor's entry; a run file has no line for them
  *   any other word 0 is garbled: refusal 1.
  *
  * A COMMAND goes by its n:
@@ -69,6 +70,10 @@
  * A REPEAT OR A STOP ends 3 at the first cycle with X = 0, that cycle counted: nothing there answers. So it does wherever a is r or above, that is at every a
  * of an empty station, covered or not, and at a = 1 to 15 of a buffer memory, and nowhere else: with 0 words and 1 cycle, and memory and buffer stay as they
  * were.
+ *
+ * AT THE TRIGGER PROCESSOR'S ENTRY limit is 1 to 32: 33 to 512 is refused with 13, in the place where 7 is checked; 0 and above 512 are 7, as in 7 to 9. Else a
+ * step 17, 18 or 19 is the step 7, 8 or 9 with the same fields: the same refusals, answer, memory and buffer. A processor's step and the same general one may
+ * stand in one list.
  *
  * AN ANSWER: four words.
  *   0 refused               the refusal number, 0, 0
@@ -112,7 +117,8 @@ enum pagontxu_refusal {
     PAGONTXU_UNFIT_CRATE = 9,         /* the memory is not fit; comes before all else */
     PAGONTXU_BAD_MODULE = 10,         /* a crate line's kind outside 1 to 5, r not of its kind, wide not 1 or 2, or wide 2 in station 23 */
     PAGONTXU_OUT_OF_ORDER = 11,       /* a crate line's station not above that of the line before */
-    PAGONTXU_COVERED_STATION = 12     /* a crate line's station is covered: its word 7 is 1 */
+    PAGONTXU_COVERED_STATION = 12,    /* a crate line's station is covered: its word 7 is 1 */
+    PAGONTXU_LONG_TRANSFER = 13       /* limit 33 to 512 at the trigger processor's entry */
 };
 
 enum pagontxu_answer {

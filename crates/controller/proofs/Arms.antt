@@ -1,10 +1,11 @@
 -- The arms of `act` and `perform`: of a step that is not refused, what the calls below it ask for; what each arm comes to; and what judging comes to.
 -- Assumes nothing.
 use Prim.Native.Nat.{ℕ, _≤_}
-use mathlib.Core.Path.{_≡_, sym, ap, subst, _∙_}
+use mathlib.Core.Path.{_≡_, refl, sym, ap, subst, _∙_}
 use mathlib.Core.Bool.{true}
 use mathlib.Core.List.{List}
-use lib.ListN.{length, getD, take, replicate}
+use native.Mathlib.Omega.{arith}
+use lib.ListN.{length, getD, take, replicate, length-replicate}
 use Rattle.station.specs.Accepted.{ReadFunction}
 use Rattle.station.specs.declared.Reply.{Reply}
 use Rattle.dataway.specs.Crate.{FitCrate}
@@ -19,7 +20,7 @@ use Rattle.transfer.specs.Repeat.{repeatOf}
 use Rattle.transfer.specs.Stop.{stopOf}
 use Rattle.transfer.specs.Put.{putOf}
 use Rattle.transfer.specs.declared.Transfer.{Transfer}
-use Rattle.step.specs.Verdict.{stepVerdict, isFine}
+use Rattle.step.specs.Verdict.{stepVerdict, shortVerdict, isFine}
 use Rattle.step.proofs.Fine.{transfer-one-of, command-fine, front-fine, inhibit-fine, scan-fields, repeat-fields, stop-fields, narrow-at, put-fields, put-lent-fields}
 use Rattle.step.specs.declared.Refusal.{Refusal}
 use Rattle.step.specs.declared.Reading.{Reading}
@@ -27,10 +28,14 @@ use Rattle.step.specs.declared.Reading.the-variants.{Good, Bad}
 use Rattle.step.specs.declared.Verdict.{Verdict}
 use Rattle.step.specs.declared.Verdict.the-variants.{Fine, Refuse}
 use Rattle.step.specs.declared.Step.{Step}
-use Rattle.step.specs.declared.Step.the-variants.{Command, Front, Z, C, Inhibit, LookAtMe, Scan, Repeat, Stop, Put, PutLent}
+use Rattle.step.specs.declared.Step.the-variants.{Command, Front, Z, C, Inhibit, LookAtMe, Scan, Repeat, Stop, Put, PutLent, Processor}
+use Rattle.step.specs.declared.Short.{Short}
+use Rattle.step.specs.declared.Short.the-variants.{ShortScan, ShortRepeat, ShortStop}
+use Rattle.step.specs.Entries.{generalOf}
+use Rattle.step.proofs.Entries.{short-fine}
 use Rattle.controller.specs.declared.Answer.{Answer}
 use Rattle.controller.specs.declared.Answer.the-variants.{Replied, Taken, Done, Looked, Transferred, Wrote, Refused}
-use Rattle.controller.specs.Steps.{order, Performed, performed, actOf, judgedOf, doneOf}
+use Rattle.controller.specs.Steps.{order, Performed, performed, shortOf, actOf, judgedOf, doneOf}
 use Rattle.controller.proofs.StepLaws.{done-fit}
 
 -- ---- what the calls ask for
@@ -74,6 +79,41 @@ module _ (s : Step) (b : List ℕ) (good : isFine (stepVerdict s b) ≡ true) wh
       let h = put-lent-fields n a to limit b (rw e at good) in
       ((h .0, h .3, h .4, h .2, h .5, h .6, h .7), narrow-at (take limit b) (h .8))
 
+  pub processor-good : (t : Short) → s ≡ Processor t → isFine (shortVerdict t (length b)) ≡ true
+  processor-good t e = rw e at good
+
+-- the same of a transfer at the trigger processor's entry: what is fine there is fine at the general entry, so its call may be made
+module _ (t : Short) (lent : ℕ) (good : isFine (shortVerdict t lent) ≡ true) where
+  zeros : length (replicate {A = ℕ} lent 0) ≡ lent
+  zeros = length-replicate {A = ℕ} lent 0
+
+  general-good : isFine (stepVerdict (generalOf t) (replicate lent 0)) ≡ true
+  general-good = short-fine t (replicate lent 0) (rw zeros good)
+
+  pub short-scan-good : (n a f to limit : ℕ) → t ≡ ShortScan n a f to limit
+      → (1 ≤ n) × (n ≤ to) × (to ≤ 23) × (a ≤ 15) × ReadFunction f × (1 ≤ limit) × (limit ≤ 512) × (limit ≤ lent)
+  short-scan-good n a f to limit e =
+      let h = scan-good (generalOf t) (replicate lent 0) general-good n a f to limit (ap generalOf e) in
+      (h .0, h .1, h .2, h .3, h .4, h .5, h .6, omega (arith, h .7, zeros))
+
+  pub short-repeat-good : (n a f limit tries : ℕ) → t ≡ ShortRepeat n a f limit tries
+      → (1 ≤ n) × (n ≤ 23) × (a ≤ 15) × ReadFunction f × (1 ≤ limit) × (limit ≤ 512) × (limit ≤ lent) × (tries ≤ 4096)
+  short-repeat-good n a f limit tries e =
+      let h = repeat-good (generalOf t) (replicate lent 0) general-good n a f limit tries (ap generalOf e) in
+      (h .0, h .1, h .2, h .3, h .4, h .5, omega (arith, h .6, zeros), h .7)
+
+  pub short-stop-good : (n a f limit : ℕ) → t ≡ ShortStop n a f limit
+      → (1 ≤ n) × (n ≤ 23) × (a ≤ 15) × ReadFunction f × (limit ≤ 512) × (limit ≤ lent)
+  short-stop-good n a f limit e =
+      let h = stop-good (generalOf t) (replicate lent 0) general-good n a f limit (ap generalOf e) in
+      (h .0, h .1, h .2, h .3, h .4, omega (arith, h .5, zeros))
+
+-- and what its arm comes to
+pub short-acts : (m m′ b b′ : List ℕ) (r : Transfer) (t u : Short) → t ≡ u
+    → r ≡ transferOf (shortOf m u) → m′ ≡ shortOf m u .memory → b′ ≡ bufferAfter (shortOf m u) b
+    → (r ≡ transferOf (shortOf m t)) × ((m′ ≡ shortOf m t .memory) × (b′ ≡ bufferAfter (shortOf m t) b))
+short-acts m m′ b b′ r t u e p q h = rw e (p, (q, h))
+
 -- ---- what each arm comes to, from what its call ensures
 module _ (s : Step) (m m′ b : List ℕ) where
   pub command-acts : (n a f w : ℕ) (r : Reply) → s ≡ Command n a f w → sentOf m n a f w ≡ record { memory = m′; reply = r }
@@ -108,6 +148,10 @@ module _ (s : Step) (m m′ b : List ℕ) where
     pub stop-acts : (n a f limit : ℕ) → s ≡ Stop n a f limit → r ≡ transferOf (stopOf m n a f limit)
         → m′ ≡ stopOf m n a f limit .memory → b′ ≡ bufferAfter (stopOf m n a f limit) b → actOf m s b ≡ performed m′ (Transferred r) b′
     stop-acts n a f limit e = ended (stopOf m n a f limit) (rw e)
+
+    pub processor-acts : (t : Short) → s ≡ Processor t → r ≡ transferOf (shortOf m t)
+        → m′ ≡ shortOf m t .memory → b′ ≡ bufferAfter (shortOf m t) b → actOf m s b ≡ performed m′ (Transferred r) b′
+    processor-acts t e = ended (shortOf m t) (rw e)
 
   pub put-acts : (n a to limit w : ℕ) (r : Transfer) → s ≡ Put n a to limit w → r ≡ transferOf (putOf m n a to limit (replicate limit w))
       → m′ ≡ putOf m n a to limit (replicate limit w) .memory → actOf m s b ≡ performed m′ (Wrote r) b

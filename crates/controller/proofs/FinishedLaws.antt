@@ -20,7 +20,7 @@ use Rattle.step.specs.Verdict.{isFine, stepVerdict}
 use Rattle.step.proofs.Fine.{command-fine, scan-fields}
 use Rattle.step.specs.declared.Refusal.the-variants.{UnfitCrate}
 use Rattle.step.specs.declared.Step.{Step}
-use Rattle.step.specs.declared.Step.the-variants.{Command, Front, Z, C, Inhibit, LookAtMe, Scan, Repeat, Stop, Put, PutLent}
+use Rattle.step.specs.declared.Step.the-variants.{Command, Front, Z, C, Inhibit, LookAtMe, Scan, Repeat, Stop, Put, PutLent, Processor}
 use Rattle.step.specs.declared.Reading.the-variants.{Good}
 use Rattle.step.specs.declared.Verdict.{Verdict}
 use Rattle.step.specs.declared.Verdict.the-variants.{Fine, Refuse}
@@ -145,6 +145,7 @@ act-words m (Repeat n a f limit tries) b p g v e = absurd (let z : _≡_ {A = �
 act-words m (Stop n a f limit) b p g v e = absurd (let z : _≡_ {A = ℕ} 0 1 = cc in omega arith)
 act-words m (Put n a to limit w) b p g v e = absurd (let z : _≡_ {A = ℕ} 0 1 = cc in omega arith)
 act-words m (PutLent n a to limit) b p g v e = absurd (let z : _≡_ {A = ℕ} 0 1 = cc in omega arith)
+act-words m (Processor t) b p g v e = absurd (let z : _≡_ {A = ℕ} 0 1 = cc in omega arith)
 
 pub replies-words : RepliesAreWords
 replies-words m s b p e =

@@ -12,3 +12,4 @@ pub mod FrontsLaws
 pub mod CoveredLaws
 pub mod RegisterLaws
 pub mod ManyLaws
+pub mod ProcessorLaws

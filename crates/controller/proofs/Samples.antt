@@ -6,7 +6,7 @@ use mathlib.Core.List.{List, [], _∷_}
 use Prim.Native.Nat.{ℕ, zero, suc, _<_}
 use native.Mathlib.Omega.{arith}
 use borrow.Author.Tests.{eqb-true}
-use lib.ListN.{length, getD}
+use lib.ListN.{length, getD, replicate}
 use lib.Dec.{eqb}
 use Rattle.regroup.specs.Lists.{outs, arranged, Common, Rearranged, Alike}
 use Rattle.regroup.proofs.Whole.{as-long, step-at}
@@ -22,8 +22,9 @@ use Rattle.dataway.proofs.CrateLaws.{crate-facts}
 use Rattle.transfer.specs.Cycle.{keep}
 use Rattle.transfer.specs.Repeat.{repeatNext, repeatFrom}
 use Rattle.transfer.specs.Stop.{stopNext, stopFrom}
-use Rattle.step.specs.Verdict.{commandVerdict, frontVerdict, scanVerdict, repeatVerdict, stopVerdict}
-use Rattle.step.specs.declared.Step.the-variants.{Command, Front, Z, Scan, Repeat, Stop}
+use Rattle.step.specs.Verdict.{commandVerdict, frontVerdict, scanVerdict, repeatVerdict, stopVerdict, shortRepeatVerdict, shortStopVerdict}
+use Rattle.step.specs.declared.Step.the-variants.{Command, Front, Z, Scan, Repeat, Stop, Processor}
+use Rattle.step.specs.declared.Short.the-variants.{ShortRepeat, ShortStop}
 use Rattle.step.specs.declared.Reading.the-variants.{Good}
 use Rattle.controller.specs.declared.Answer.the-variants.{Replied, Transferred}
 use Rattle.controller.specs.Steps.{Order, order, Out, leaves, gives, touches, stepOf, doneOf}
@@ -151,7 +152,46 @@ pub register-sample : (p : List ℕ) → Rearranged touches beyond (at3 ∷ toRe
 unfolding commandVerdict
 register-sample = held-in-order toRegister (λ k. refl)
 
--- ---- a command moves past a Repeat past a Stop: each touches its own station only
+-- ---- three steps of which no two touch a station in common may be turned round
+-- each touches its own station only
+apart : (x y : Order) (i j : ℕ) → ((k : ℕ) → touches x k ≡ eqb i k) → ((k : ℕ) → touches y k ≡ eqb j k) → (i ≡ j → ⊥) → Common touches x y → ⊥
+apart x y i j p q other c = other (eqb-true i (c .0) (sym (p (c .0)) ∙ c .3) ∙ sym (eqb-true j (c .0) (sym (q (c .0)) ∙ c .4)))
+
+abbrev pub turned : List ℕ
+turned = 2 ∷ 1 ∷ 0 ∷ []
+
+module _ (x y z : Order) (no-zy : Common touches z y → ⊥) (no-zx : Common touches z x → ⊥) (no-yx : Common touches y x → ⊥) where
+  turned-round : Rearranged touches beyond (x ∷ y ∷ z ∷ []) (z ∷ y ∷ x ∷ []) turned
+  turned-round = record { second = refl; places = below; each = every; once = once; order = kept }
+    where
+      below : (k : ℕ) → k < 3 → getD turned k 0 < 3
+      below zero h = omega arith
+      below (suc zero) h = omega arith
+      below (suc (suc zero)) h = omega arith
+      below (suc (suc (suc k))) h = absurd (omega arith)
+
+      there : (k : ℕ) → k < 3 → getD turned (getD turned k 0) 0 ≡ k
+      there zero h = refl
+      there (suc zero) h = refl
+      there (suc (suc zero)) h = refl
+      there (suc (suc (suc k))) h = absurd (omega arith)
+
+      every : (i : ℕ) → i < 3 → (k : ℕ) × (k < 3) × (getD turned k 0 ≡ i)
+      every i h = (getD turned i 0, below i h, there i h)
+
+      once : (j k : ℕ) → j < 3 → k < 3 → getD turned j 0 ≡ getD turned k 0 → j ≡ k
+      once j k a b e = sym (there j a) ∙ ap (λ (i : ℕ). getD turned i 0) e ∙ there k b
+
+      kept : (j k : ℕ) → j < k → k < 3 → Common touches (getD (z ∷ y ∷ x ∷ []) j beyond) (getD (z ∷ y ∷ x ∷ []) k beyond) → getD turned j 0 < getD turned k 0
+      kept zero (suc zero) a b c = absurd (no-zy c)
+      kept zero (suc (suc zero)) a b c = absurd (no-zx c)
+      kept (suc zero) (suc (suc zero)) a b c = absurd (no-yx c)
+      kept j zero a b c = absurd (omega arith)
+      kept (suc j) (suc zero) a b c = absurd (omega arith)
+      kept (suc (suc j)) (suc (suc zero)) a b c = absurd (omega arith)
+      kept j (suc (suc (suc k))) a b c = absurd (omega arith)
+
+-- ---- a command moves past a Repeat past a Stop
 abbrev pub command3 : Order
 command3 = order (Good (Command 3 0 0 0)) []
 
@@ -173,42 +213,12 @@ touches-stop : (k : ℕ) → touches stop7 k ≡ eqb 7 k
 unfolding stopVerdict
 touches-stop k = refl
 
-abbrev pub turned : List ℕ
-turned = 2 ∷ 1 ∷ 0 ∷ []
-
 pub turned-sample : Rearranged touches beyond (command3 ∷ repeat5 ∷ stop7 ∷ []) (stop7 ∷ repeat5 ∷ command3 ∷ []) turned
-turned-sample = record { second = refl; places = below; each = every; once = once; order = kept }
-  where
-    below : (k : ℕ) → k < 3 → getD turned k 0 < 3
-    below zero h = omega arith
-    below (suc zero) h = omega arith
-    below (suc (suc zero)) h = omega arith
-    below (suc (suc (suc k))) h = absurd (omega arith)
-
-    there : (k : ℕ) → k < 3 → getD turned (getD turned k 0) 0 ≡ k
-    there zero h = refl
-    there (suc zero) h = refl
-    there (suc (suc zero)) h = refl
-    there (suc (suc (suc k))) h = absurd (omega arith)
-
-    every : (i : ℕ) → i < 3 → (k : ℕ) × (k < 3) × (getD turned k 0 ≡ i)
-    every i h = (getD turned i 0, below i h, there i h)
-
-    once : (j k : ℕ) → j < 3 → k < 3 → getD turned j 0 ≡ getD turned k 0 → j ≡ k
-    once j k a b e = sym (there j a) ∙ ap (λ (i : ℕ). getD turned i 0) e ∙ there k b
-
-    kept : (j k : ℕ) → j < k → k < 3
-        → Common touches (getD (stop7 ∷ repeat5 ∷ command3 ∷ []) j beyond) (getD (stop7 ∷ repeat5 ∷ command3 ∷ []) k beyond) → getD turned j 0 < getD turned k 0
-    kept zero (suc zero) a b c =
-        absurd (omega (arith, eqb-true 7 (c .0) (sym (touches-stop (c .0)) ∙ c .3), eqb-true 5 (c .0) (sym (touches-repeat (c .0)) ∙ c .4)))
-    kept zero (suc (suc zero)) a b c =
-        absurd (omega (arith, eqb-true 7 (c .0) (sym (touches-stop (c .0)) ∙ c .3), eqb-true 3 (c .0) (sym (touches-command (c .0)) ∙ c .4)))
-    kept (suc zero) (suc (suc zero)) a b c =
-        absurd (omega (arith, eqb-true 5 (c .0) (sym (touches-repeat (c .0)) ∙ c .3), eqb-true 3 (c .0) (sym (touches-command (c .0)) ∙ c .4)))
-    kept j zero a b c = absurd (omega arith)
-    kept (suc j) (suc zero) a b c = absurd (omega arith)
-    kept (suc (suc j)) (suc (suc zero)) a b c = absurd (omega arith)
-    kept j (suc (suc (suc k))) a b c = absurd (omega arith)
+turned-sample =
+    turned-round command3 repeat5 stop7
+    (apart stop7 repeat5 7 5 touches-stop touches-repeat (λ e. omega (arith, e)))
+    (apart stop7 command3 7 3 touches-stop touches-command (λ e. omega (arith, e)))
+    (apart repeat5 command3 5 3 touches-repeat touches-command (λ e. omega (arith, e)))
 
 pub turned-alike : (m : List ℕ) → FitCrate m → Alike leaves gives m (command3 ∷ repeat5 ∷ stop7 ∷ []) (stop7 ∷ repeat5 ∷ command3 ∷ []) turned
 turned-alike m f = crate-regroup m f (command3 ∷ repeat5 ∷ stop7 ∷ []) (stop7 ∷ repeat5 ∷ command3 ∷ []) turned turned-sample
@@ -241,3 +251,36 @@ three-sample = refl
 -- by demand 3 they do so in the other order too
 pub three-regrouped : outs leaves gives around5 (stop7 ∷ repeat5 ∷ command3 ∷ []) ≡ reached ∷ three ∷ replied ∷ []
 three-regrouped = turned-alike around5 (crate-facts around5 around5-fit) .1 three ∙ ap (λ (os : List Out). arranged three os turned) three-sample
+
+-- ---- steps of both entries: a Stop at the general entry with a limit above 32; the same at the trigger processor's entry, which is refused with 13 and
+-- touches no station; and a Repeat there
+abbrev pub general3 : Order
+general3 = order (Good (Stop 3 0 0 33)) (replicate 33 0)
+
+abbrev pub long3 : Order
+long3 = order (Good (Processor (ShortStop 3 0 0 33))) (replicate 33 0)
+
+abbrev pub short5 : Order
+short5 = order (Good (Processor (ShortRepeat 5 0 0 32 1))) (replicate 32 0)
+
+touches-general : (k : ℕ) → touches general3 k ≡ eqb 3 k
+unfolding stopVerdict
+touches-general k = refl
+
+touches-long : (k : ℕ) → touches long3 k ≡ false
+unfolding shortStopVerdict
+touches-long k = refl
+
+touches-short : (k : ℕ) → touches short5 k ≡ eqb 5 k
+unfolding shortRepeatVerdict
+touches-short k = refl
+
+pub entries-sample : Rearranged touches beyond (general3 ∷ long3 ∷ short5 ∷ []) (short5 ∷ long3 ∷ general3 ∷ []) turned
+entries-sample =
+    turned-round general3 long3 short5
+    (λ c. true≢false (sym (c .4) ∙ touches-long (c .0)))
+    (apart short5 general3 5 3 touches-short touches-general (λ e. omega (arith, e)))
+    (λ c. true≢false (sym (c .3) ∙ touches-long (c .0)))
+
+pub entries-alike : (m : List ℕ) → FitCrate m → Alike leaves gives m (general3 ∷ long3 ∷ short5 ∷ []) (short5 ∷ long3 ∷ general3 ∷ []) turned
+entries-alike m f = crate-regroup m f (general3 ∷ long3 ∷ short5 ∷ []) (short5 ∷ long3 ∷ general3 ∷ []) turned entries-sample

@@ -9,21 +9,22 @@ use native.Mathlib.Omega.{arith}
 use lib.Dec.{eqb}
 use lib.ListN.{length, getD, drop, length-append, length-drop}
 use Rattle.transfer.specs.Cycle.{Ended, bufferAfter, reads}
-use Rattle.transfer.specs.Scan.{scanOf}
-use Rattle.transfer.specs.Repeat.{repeatOf}
-use Rattle.transfer.specs.Stop.{stopOf}
 use Rattle.transfer.proofs.Ends.{scan-words, repeat-words, stop-words}
 use Rattle.dataway.specs.Crate.{isFitCrate, FitCrate}
 use Rattle.step.specs.Verdict.{verdictOf, stepVerdict, isFine}
 use Rattle.step.proofs.Fine.{scan-fields, repeat-fields, stop-fields}
 use Rattle.step.proofs.Numbers.{row, row-number}
-use Rattle.controller.specs.Steps.{Order, Performed, refused, actOf, judgedOf, readingDone, doneOf, stepOf, leaves, gives}
+use Rattle.controller.specs.Steps.{Order, Performed, refused, shortOf, actOf, judgedOf, readingDone, doneOf, stepOf, leaves, gives}
 use Rattle.controller.specs.Answers.{answerWords}
 use Rattle.controller.proofs.StepLaws.{law, step-done}
 use Rattle.step.specs.declared.Refusal.{Refusal}
 use Rattle.step.specs.declared.Refusal.the-variants.{UnfitCrate}
 use Rattle.step.specs.declared.Step.{Step}
-use Rattle.step.specs.declared.Step.the-variants.{Command, Front, Z, C, Inhibit, LookAtMe, Scan, Repeat, Stop, Put, PutLent}
+use Rattle.step.specs.declared.Step.the-variants.{Command, Front, Z, C, Inhibit, LookAtMe, Scan, Repeat, Stop, Put, PutLent, Processor}
+use Rattle.step.specs.declared.Short.{Short}
+use Rattle.step.specs.declared.Short.the-variants.{ShortScan, ShortRepeat, ShortStop}
+use Rattle.step.specs.Entries.{generalOf, limitOf}
+use Rattle.step.proofs.Entries.{short-fine}
 use Rattle.step.specs.declared.Reading.{Reading}
 use Rattle.step.specs.declared.Reading.the-variants.{Good, Bad}
 use Rattle.step.specs.declared.Verdict.{Verdict}
@@ -57,6 +58,7 @@ act-answers m (Repeat n a f limit tries) b = refl
 act-answers m (Stop n a f limit) b = refl
 act-answers m (Put n a to limit w) b = refl
 act-answers m (PutLent n a to limit) b = refl
+act-answers m (Processor t) b = refl
 
 judged-same : (v : Verdict) (m : List ℕ) (s : Step) (b : List ℕ) → isRefused (judgedOf v m s b .out .answer) ≡ true
     → (judgedOf v m s b .memory ≡ m) × (judgedOf v m s b .out .buffer ≡ b)
@@ -107,6 +109,18 @@ refused-by m m′ o q f f′ e =
 ended-long : (e : Ended) (b : List ℕ) (limit : ℕ) → length (e .words) ≤ limit → limit ≤ length b → length (bufferAfter e b) ≡ length b
 ended-long e b limit h l = length-append (e .words) (drop (length (e .words)) b) ∙ omega (arith, length-drop (length (e .words)) b)
 
+-- of the three transfers, which stand at two entries
+pub general-words : (m : List ℕ) (t : Short) (b : List ℕ) → isFine (stepVerdict (generalOf t) b) ≡ true
+    → (length (shortOf m t .words) ≤ limitOf t) × (limitOf t ≤ length b)
+general-words m (ShortScan n a f to limit) b e =
+    let h = scan-fields n a f to limit (length b) e in
+    (scan-words (reads f) to limit m n a (h .2), h .8)
+general-words m (ShortRepeat n a f limit tries) b e = (repeat-words (reads f) n a limit tries m, repeat-fields n a f limit tries (length b) e .8)
+general-words m (ShortStop n a f limit) b e = (stop-words (reads f) n a limit m, stop-fields n a f limit (length b) e .6)
+
+general-long : (m : List ℕ) (t : Short) (b : List ℕ) → isFine (stepVerdict (generalOf t) b) ≡ true → length (bufferAfter (shortOf m t) b) ≡ length b
+general-long m t b e = let h = general-words m t b e in ended-long (shortOf m t) b (limitOf t) (h .0) (h .1)
+
 act-long : (m : List ℕ) (s : Step) (b : List ℕ) → isFine (stepVerdict s b) ≡ true → length (actOf m s b .out .buffer) ≡ length b
 act-long m (Command n a f w) b e = refl
 act-long m (Front n a v) b e = refl
@@ -114,15 +128,10 @@ act-long m Z b e = refl
 act-long m C b e = refl
 act-long m (Inhibit v) b e = refl
 act-long m LookAtMe b e = refl
-act-long m (Scan n a f to limit) b e =
-    let h = scan-fields n a f to limit (length b) e in
-    ended-long (scanOf m n a f to limit) b limit (scan-words (reads f) to limit m n a (h .2)) (h .8)
-act-long m (Repeat n a f limit tries) b e =
-    let h = repeat-fields n a f limit tries (length b) e in
-    ended-long (repeatOf m n a f limit tries) b limit (repeat-words (reads f) n a limit tries m) (h .8)
-act-long m (Stop n a f limit) b e =
-    let h = stop-fields n a f limit (length b) e in
-    ended-long (stopOf m n a f limit) b limit (stop-words (reads f) n a limit m) (h .6)
+act-long m (Scan n a f to limit) b e = general-long m (ShortScan n a f to limit) b e
+act-long m (Repeat n a f limit tries) b e = general-long m (ShortRepeat n a f limit tries) b e
+act-long m (Stop n a f limit) b e = general-long m (ShortStop n a f limit) b e
+act-long m (Processor t) b e = general-long m t b (short-fine t b e)
 act-long m (Put n a to limit w) b e = refl
 act-long m (PutLent n a to limit) b e = refl
 

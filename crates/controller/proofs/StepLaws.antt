@@ -30,7 +30,11 @@ use Rattle.step.specs.declared.Refusal.{Refusal}
 use Rattle.step.proofs.Fine.{command-fine, front-fine, inhibit-fine, scan-fine, repeat-fine, stop-fine, narrow-at, put-fields, put-lent-fields}
 use Rattle.step.specs.declared.Refusal.the-variants.{UnfitCrate}
 use Rattle.step.specs.declared.Step.{Step}
-use Rattle.step.specs.declared.Step.the-variants.{Command, Front, Z, C, Inhibit, LookAtMe, Scan, Repeat, Stop, Put, PutLent}
+use Rattle.step.specs.declared.Step.the-variants.{Command, Front, Z, C, Inhibit, LookAtMe, Scan, Repeat, Stop, Put, PutLent, Processor}
+use Rattle.step.specs.declared.Short.{Short}
+use Rattle.step.specs.declared.Short.the-variants.{ShortScan, ShortRepeat, ShortStop}
+use Rattle.step.specs.Entries.{generalOf}
+use Rattle.step.proofs.Entries.{short-fine}
 use Rattle.step.specs.declared.Reading.{Reading}
 use Rattle.step.specs.declared.Reading.the-variants.{Good, Bad}
 use Rattle.step.specs.declared.Verdict.{Verdict}
@@ -49,6 +53,25 @@ toldOut b t = record {
 -- the same of a put: the buffer stays
 abbrev wroteOut : List ℕ → Told → Out
 wroteOut b t = record { answer = Wrote (record { end = t .end; words = length (t .words); cycles = t .cycles }); buffer = b }
+
+-- ---- the three transfers, which stand at two entries
+general : (t : Short) (b : List ℕ) → isFine (stepVerdict (generalOf t) b) ≡ true
+    → Local FitCrate (reach (generalOf t)) (λ (m : List ℕ). actOf m (generalOf t) b .memory) (λ (m : List ℕ). actOf m (generalOf t) b .out)
+general (ShortScan n a f to limit) b e =
+    let h = scan-fine n a f to limit (length b) e in
+    let on = reach (Scan n a f to limit) in
+    local-map FitCrate crate-size on (λ (m : List ℕ). scanOf m n a f to limit .memory) (λ (m : List ℕ). told (scanOf m n a f to limit)) (toldOut b)
+    (local-scan n a (h .0) (h .1) on f to limit (h .2) (λ i p q. rw (le-leb n i p, le-leb i to q)))
+general (ShortRepeat n a f limit tries) b e =
+    let h = repeat-fine n a f limit tries (length b) e in
+    let on = reach (Repeat n a f limit tries) in
+    local-map FitCrate crate-size on (λ (m : List ℕ). repeatOf m n a f limit tries .memory) (λ (m : List ℕ). told (repeatOf m n a f limit tries)) (toldOut b)
+    (local-repeat n a (h .0) (h .2) on f limit tries (h .1) (eq-eqb n n refl))
+general (ShortStop n a f limit) b e =
+    let h = stop-fine n a f limit (length b) e in
+    let on = reach (Stop n a f limit) in
+    local-map FitCrate crate-size on (λ (m : List ℕ). stopOf m n a f limit .memory) (λ (m : List ℕ). told (stopOf m n a f limit)) (toldOut b)
+    (local-stop n a (h .0) (h .2) on f limit (h .1) (eq-eqb n n refl))
 
 -- ---- one case a kind of step
 good : (s : Step) (b : List ℕ) → isFine (stepVerdict s b) ≡ true
@@ -69,21 +92,12 @@ good Z b e = local-z (reach Z) (λ n p q. refl) (λ (m : List ℕ). actOf m Z b 
 good C b e = local-c (reach C) (λ n p q. refl) (λ (m : List ℕ). actOf m C b .out)
 good (Inhibit v) b e = local-i (reach (Inhibit v)) (λ n p q. refl) (λ (m : List ℕ). actOf m (Inhibit v) b .out) v (inhibit-fine v e)
 good LookAtMe b e = local-lam (reach LookAtMe) (λ n p q. refl) (λ (m : List ℕ). actOf m LookAtMe b .out)
-good (Scan n a f to limit) b e =
-    let h = scan-fine n a f to limit (length b) e in
-    let on = reach (Scan n a f to limit) in
-    local-map FitCrate crate-size on (λ (m : List ℕ). scanOf m n a f to limit .memory) (λ (m : List ℕ). told (scanOf m n a f to limit)) (toldOut b)
-    (local-scan n a (h .0) (h .1) on f to limit (h .2) (λ i p q. rw (le-leb n i p, le-leb i to q)))
-good (Repeat n a f limit tries) b e =
-    let h = repeat-fine n a f limit tries (length b) e in
-    let on = reach (Repeat n a f limit tries) in
-    local-map FitCrate crate-size on (λ (m : List ℕ). repeatOf m n a f limit tries .memory) (λ (m : List ℕ). told (repeatOf m n a f limit tries)) (toldOut b)
-    (local-repeat n a (h .0) (h .2) on f limit tries (h .1) (eq-eqb n n refl))
-good (Stop n a f limit) b e =
-    let h = stop-fine n a f limit (length b) e in
-    let on = reach (Stop n a f limit) in
-    local-map FitCrate crate-size on (λ (m : List ℕ). stopOf m n a f limit .memory) (λ (m : List ℕ). told (stopOf m n a f limit)) (toldOut b)
-    (local-stop n a (h .0) (h .2) on f limit (h .1) (eq-eqb n n refl))
+good (Scan n a f to limit) b e = general (ShortScan n a f to limit) b e
+good (Repeat n a f limit tries) b e = general (ShortRepeat n a f limit tries) b e
+good (Stop n a f limit) b e = general (ShortStop n a f limit) b e
+good (Processor (ShortScan n a f to limit)) b e = general (ShortScan n a f to limit) b (short-fine (ShortScan n a f to limit) b e)
+good (Processor (ShortRepeat n a f limit tries)) b e = general (ShortRepeat n a f limit tries) b (short-fine (ShortRepeat n a f limit tries) b e)
+good (Processor (ShortStop n a f limit)) b e = general (ShortStop n a f limit) b (short-fine (ShortStop n a f limit) b e)
 good (Put n a to limit w) b e =
     let h = put-fields n a to limit w e in
     let on = reach (Put n a to limit w) in

@@ -10,3 +10,4 @@ pub mod Fronts
 pub mod Covered
 pub mod Register
 pub mod Many
+pub mod Processor

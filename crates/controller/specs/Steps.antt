@@ -19,7 +19,9 @@ use Rattle.step.specs.Touches.{touchesOf}
 use Rattle.step.specs.declared.Refusal.{Refusal}
 use Rattle.step.specs.declared.Refusal.the-variants.{UnfitCrate}
 use Rattle.step.specs.declared.Step.{Step}
-use Rattle.step.specs.declared.Step.the-variants.{Command, Front, Z, C, Inhibit, LookAtMe, Scan, Repeat, Stop, Put, PutLent}
+use Rattle.step.specs.declared.Step.the-variants.{Command, Front, Z, C, Inhibit, LookAtMe, Scan, Repeat, Stop, Put, PutLent, Processor}
+use Rattle.step.specs.declared.Short.{Short}
+use Rattle.step.specs.declared.Short.the-variants.{ShortScan, ShortRepeat, ShortStop}
 use Rattle.step.specs.declared.Reading.{Reading}
 use Rattle.step.specs.declared.Reading.the-variants.{Good, Bad}
 use Rattle.step.specs.declared.Verdict.{Verdict}
@@ -60,6 +62,12 @@ wrote e b = performed (e .memory) (Wrote (transferOf e)) b
 abbrev pub refused : Refusal → List ℕ → List ℕ → Performed
 refused q m b = performed m (Refused q) b
 
+-- a transfer at the trigger processor's entry does what the general entry's does
+abbrev pub shortOf : List ℕ → Short → Ended
+shortOf m (ShortScan n a f to limit) = scanOf m n a f to limit
+shortOf m (ShortRepeat n a f limit tries) = repeatOf m n a f limit tries
+shortOf m (ShortStop n a f limit) = stopOf m n a f limit
+
 -- what each kind of step does, where it is not refused; a put offers `limit` words, each w, or the first `limit` words of its buffer
 abbrev pub actOf : List ℕ → Step → List ℕ → Performed
 actOf m (Command n a f w) b = performed (sentOf m n a f w .memory) (Replied (sentOf m n a f w .reply)) b
@@ -73,6 +81,7 @@ actOf m (Repeat n a f limit tries) b = transferred (repeatOf m n a f limit tries
 actOf m (Stop n a f limit) b = transferred (stopOf m n a f limit) b
 actOf m (Put n a to limit w) b = wrote (putOf m n a to limit (replicate limit w)) b
 actOf m (PutLent n a to limit) b = wrote (putOf m n a to limit (take limit b)) b
+actOf m (Processor t) b = transferred (shortOf m t) b
 
 -- a step with its verdict
 abbrev pub judgedOf : Verdict → List ℕ → Step → List ℕ → Performed

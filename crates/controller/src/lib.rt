@@ -2,9 +2,11 @@
 ghost use mathlib.Core.Path.{_≡_};
 ghost use mathlib.Core.Bool.{true};
 ghost use Rattle.dataway.specs.Crate.{FitCrate};
-ghost use Rattle.step.specs.Verdict.{stepVerdict, isFine};
+ghost use lib.ListN.{length};
+ghost use Rattle.transfer.specs.Cycle.{transferOf, bufferAfter};
+ghost use Rattle.step.specs.Verdict.{stepVerdict, shortVerdict, isFine};
 ghost use Rattle.step.specs.declared.Reading.{Reading};
-ghost use Rattle.controller.specs.Steps.{order, performed, actOf, doneOf};
+ghost use Rattle.controller.specs.Steps.{order, performed, shortOf, actOf, doneOf};
 
 pub mod placing;
 
@@ -14,6 +16,7 @@ use dataway::lam::LamReading;
 use station::Reply;
 use step::Reading;
 use step::Refusal;
+use step::Short;
 use step::Step;
 use step::Verdict;
 use transfer::Transfer;
@@ -92,6 +95,29 @@ fn act(memory: &mut [u32], step: Step, buffer: &mut [u32]) -> Answer
         Step::PutLent { n, a, to, limit } => {
             Answer::Wrote(transfer::put::put_lent(memory, buffer, n, a, to, limit))
         }
+        Step::Processor(short) => Answer::Transferred(act_short(memory, short, buffer)),
+    }
+}
+
+// Does a transfer at the trigger processor's entry whose fields and buffer are good: what the general entry does.
+fn act_short(memory: &mut [u32], short: Short, buffer: &mut [u32]) -> Transfer
+    requires { ⌜ FitCrate (now memory) ⌝ ∗ ⌜ isFine (shortVerdict short (length (now buffer))) ≡ true ⌝ }
+    ensures { λ r. ⌜ r ≡ transferOf (shortOf (now (memory .entry)) short) ⌝ }
+    ensures { λ _. ⌜ now (memory .exit) ≡ shortOf (now (memory .entry)) short .memory ⌝ }
+    ensures { λ _. ⌜ now (buffer .exit) ≡ bufferAfter (shortOf (now (memory .entry)) short) (now (buffer .entry)) ⌝ }
+{
+    match short {
+        Short::ShortScan { n, a, f, to, limit } => {
+            transfer::scan::scan(memory, buffer, n, a, f, to, limit)
+        }
+        Short::ShortRepeat {
+            n,
+            a,
+            f,
+            limit,
+            tries,
+        } => transfer::repeat::repeat(memory, buffer, n, a, f, limit, tries),
+        Short::ShortStop { n, a, f, limit } => transfer::stop::stop(memory, buffer, n, a, f, limit),
     }
 }
 

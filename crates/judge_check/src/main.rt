@@ -3,6 +3,7 @@
 use kinds::Module;
 use libc::STDOUT_FILENO;
 use step::Refusal;
+use step::Short;
 use step::Step;
 use step::Verdict;
 
@@ -86,6 +87,39 @@ fn stop(lent: usize, n: u32, a: u32, f: u32, limit: u32) {
             limit: limit,
         },
     );
+}
+
+// The same three at the trigger processor's entry.
+fn short_scan(lent: usize, n: u32, a: u32, f: u32, to: u32, limit: u32) {
+    let short = Short::ShortScan {
+        n: n,
+        a: a,
+        f: f,
+        to: to,
+        limit: limit,
+    };
+    lend(lent, Step::Processor(short));
+}
+
+fn short_repeat(lent: usize, n: u32, a: u32, f: u32, limit: u32, tries: u32) {
+    let short = Short::ShortRepeat {
+        n: n,
+        a: a,
+        f: f,
+        limit: limit,
+        tries: tries,
+    };
+    lend(lent, Step::Processor(short));
+}
+
+fn short_stop(lent: usize, n: u32, a: u32, f: u32, limit: u32) {
+    let short = Short::ShortStop {
+        n: n,
+        a: a,
+        f: f,
+        limit: limit,
+    };
+    lend(lent, Step::Processor(short));
 }
 
 fn put(n: u32, a: u32, to: u32, limit: u32, w: u32) {
@@ -409,6 +443,37 @@ fn no_station(n: u32) {
     module(0, n, 1, 1);
 }
 
+// At the trigger processor's entry a limit from 33 to 512 is 13, in the place where 7 is checked; the last four are at the general entry.
+fn processors() {
+    short_scan(513, 24, 0, 0, 24, 33);
+    short_scan(513, 3, 16, 0, 3, 33);
+    short_scan(513, 3, 0, 1, 2, 33);
+    short_scan(513, 3, 0, 0, 2, 33);
+    short_scan(513, 3, 0, 0, 3, 0);
+    short_scan(513, 3, 0, 0, 3, 513);
+    short_scan(513, 3, 0, 0, 3, 4294967295);
+    short_scan(513, 3, 0, 0, 3, 33);
+    short_scan(513, 3, 0, 0, 3, 512);
+    short_scan(32, 3, 0, 0, 3, 32);
+    short_scan(31, 3, 0, 0, 3, 32);
+    short_scan(0, 3, 0, 0, 3, 33);
+    short_repeat(513, 3, 0, 0, 33, 0);
+    short_repeat(513, 3, 0, 0, 32, 0);
+    short_repeat(513, 3, 0, 0, 32, 4097);
+    short_repeat(513, 3, 0, 0, 513, 0);
+    short_repeat(32, 3, 0, 0, 32, 4096);
+    short_repeat(31, 3, 0, 0, 32, 4096);
+    short_stop(33, 3, 0, 0, 33);
+    short_stop(32, 3, 0, 0, 32);
+    short_stop(0, 3, 0, 0, 0);
+    short_stop(0, 3, 0, 1, 33);
+    short_scan(1, 3, 0, 0, 3, 1);
+    scan(33, 3, 0, 0, 3, 33);
+    scan(512, 3, 0, 0, 3, 512);
+    repeat(512, 3, 0, 0, 512, 1);
+    stop(512, 3, 0, 0, 512);
+}
+
 fn main() {
     // the two that no field decides
     show(Verdict::Refuse(Refusal::Garbled));
@@ -435,4 +500,5 @@ fn main() {
     no_station(26);
     no_station(28);
     no_station(30);
+    processors();
 }

@@ -286,15 +286,42 @@ fn one(case: u32, as_step: bool, memory: &[u32], line: &[u8], lent: usize, y: u3
     end_line();
 }
 
-// The first step of a list by `run_step`, lent so many words.
-fn first_step(memory: &mut [u32], steps: &[u32], buffer: &mut [u32], lent: usize) -> Answer {
-    let lent = least(lent, buffer.len());
+// The transfer of a step's words by the trigger processor's call.
+fn at_processor(memory: &mut [u32], words: &[u32], buffer: &mut [u32]) -> Answer {
+    let n = word(words, 1);
+    let a = word(words, 2);
+    let f = word(words, 3);
+    let p = word(words, 4);
+    let q = word(words, 5);
+    match word(words, 0) {
+        17 => rehearsal::processor_scan(memory, n, a, f, p, q, buffer),
+        18 => rehearsal::processor_repeat(memory, n, a, f, p, q, buffer),
+        _ => rehearsal::processor_stop(memory, n, a, f, p, buffer),
+    }
+}
+
+// The first step of a list by `run_step`, or by the trigger processor's call.
+fn first_step(as_step: bool, memory: &mut [u32], steps: &[u32], buffer: &mut [u32]) -> Answer {
+    if !as_step {
+        return at_processor(memory, steps, buffer);
+    }
     if 6 <= steps.len() {
         if let Reading::Good(step) = lists::read_step(&steps[..6]) {
-            return rehearsal::run_step(memory, step, &mut buffer[..lent]);
+            return rehearsal::run_step(memory, step, buffer);
         }
     }
     Answer::Refused(Refusal::Garbled)
+}
+
+fn first_lent(
+    as_step: bool,
+    memory: &mut [u32],
+    steps: &[u32],
+    buffer: &mut [u32],
+    lent: usize,
+) -> Answer {
+    let lent = least(lent, buffer.len());
+    first_step(as_step, memory, steps, &mut buffer[..lent])
 }
 
 // Numbers 3 to 6 are the first four words of the buffer.
@@ -306,13 +333,14 @@ fn fill(buffer: &mut [u32], numbers: &[u32]) {
 }
 
 // The first step of the list with words lent: its answer, the first four registers of station 6, and how many words it changed.
-fn lend(case: u32, memory: &[u32], steps: &[u32], numbers: &[u32]) {
+fn lend(case: u32, as_step: bool, memory: &[u32], steps: &[u32], numbers: &[u32]) {
     let mut m = [0u32; 768];
     copy(memory, &mut m);
     let mut full = [MARK; LONG_BUFFER];
     fill(&mut full, numbers);
     let mut buffer = full;
-    let answer = first_step(&mut m, steps, &mut buffer, place(numbers, 2));
+    let lent = place(numbers, 2);
+    let answer = first_lent(as_step, &mut m, steps, &mut buffer, lent);
     show_one(case, answer, &buffer);
     show_words(b" ;", &m, 208, 212);
     show_changes(b" memory=", memory, &m);
@@ -486,8 +514,8 @@ fn do_call(op: u8, numbers: &[u32], text: &[u8], memory: &mut [u32], steps: &[u3
                 word(numbers, 3),
             );
         }
-        b'B' => {
-            lend(case, memory, steps, numbers);
+        b'B' | b'T' => {
+            lend(case, op == b'B', memory, steps, numbers);
         }
         b'P' => {
             two_lists(case, memory, word(numbers, 2), steps);

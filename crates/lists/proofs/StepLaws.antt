@@ -6,7 +6,8 @@ use mathlib.Core.List.{List, [], _∷_}
 use native.Mathlib.Omega.{arith}
 use lib.ListN.{length, set}
 use Rattle.step.specs.declared.Step.{Step}
-use Rattle.step.specs.declared.Step.the-variants.{Command, Front, Z, C, Inhibit, LookAtMe, Scan, Repeat, Stop, Put, PutLent}
+use Rattle.step.specs.declared.Step.the-variants.{Command, Front, Z, C, Inhibit, LookAtMe, Scan, Repeat, Stop, Put, PutLent, Processor}
+use Rattle.step.specs.declared.Short.the-variants.{ShortScan, ShortRepeat, ShortStop}
 use Rattle.step.specs.declared.Reading.{Reading}
 use Rattle.step.specs.declared.Reading.the-variants.{Good, Bad}
 use Rattle.lists.specs.Words.{stepWords, kindsOf, readingOf}
@@ -37,6 +38,9 @@ step-words (Repeat n a f limit tries) = (refl, refl)
 step-words (Stop n a f limit) = (refl, refl)
 step-words (Put n a to limit w) = (refl, refl)
 step-words (PutLent n a to limit) = (refl, refl)
+step-words (Processor (ShortScan n a f to limit)) = (refl, refl)
+step-words (Processor (ShortRepeat n a f limit tries)) = (refl, refl)
+step-words (Processor (ShortStop n a f limit)) = (refl, refl)
 
 -- has six words
 pub words-six : (s : Step) → length (stepWords s) ≡ 6

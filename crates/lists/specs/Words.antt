@@ -5,12 +5,14 @@ use lib.ListN.{getD, take, drop}
 use Rattle.kinds.specs.Cases.{Case, _does_, caseOf}
 use Rattle.step.specs.declared.Refusal.the-variants.{Garbled}
 use Rattle.step.specs.declared.Step.{Step}
-use Rattle.step.specs.declared.Step.the-variants.{Command, Front, Z, C, Inhibit, LookAtMe, Scan, Repeat, Stop, Put, PutLent}
+use Rattle.step.specs.declared.Step.the-variants.{Command, Front, Z, C, Inhibit, LookAtMe, Scan, Repeat, Stop, Put, PutLent, Processor}
+use Rattle.step.specs.declared.Short.the-variants.{ShortScan, ShortRepeat, ShortStop}
 use Rattle.step.specs.declared.Reading.{Reading}
 use Rattle.step.specs.declared.Reading.the-variants.{Good, Bad}
 use Rattle.controller.specs.Steps.{Order, order}
 
--- the six words of a step: which kind it is, then its fields in the line's order, then 0; a put of lent words (11) has no line
+-- the six words of a step: which kind it is, then its fields in the line's order, then 0; a put of lent words (11) and a transfer at the trigger processor's entry
+-- (17, 18, 19) have no line
 unfoldable pub stepWords : Step → List ℕ
 stepWords (Command n a f w) = 1 ∷ n ∷ a ∷ f ∷ w ∷ 0 ∷ []
 stepWords (Front n a v) = 2 ∷ n ∷ a ∷ v ∷ 0 ∷ 0 ∷ []
@@ -23,6 +25,9 @@ stepWords (Repeat n a f limit tries) = 8 ∷ n ∷ a ∷ f ∷ limit ∷ tries �
 stepWords (Stop n a f limit) = 9 ∷ n ∷ a ∷ f ∷ limit ∷ 0 ∷ []
 stepWords (Put n a to limit w) = 10 ∷ n ∷ a ∷ to ∷ limit ∷ w ∷ []
 stepWords (PutLent n a to limit) = 11 ∷ n ∷ a ∷ to ∷ limit ∷ 0 ∷ []
+stepWords (Processor (ShortScan n a f to limit)) = 17 ∷ n ∷ a ∷ f ∷ to ∷ limit ∷ []
+stepWords (Processor (ShortRepeat n a f limit tries)) = 18 ∷ n ∷ a ∷ f ∷ limit ∷ tries ∷ []
+stepWords (Processor (ShortStop n a f limit)) = 19 ∷ n ∷ a ∷ f ∷ limit ∷ 0 ∷ []
 
 -- the same read back: what each first word stands for; words past a step's fields are not looked at
 unfoldable pub kindsOf : List ℕ → List (Case Reading)
@@ -38,6 +43,9 @@ kindsOf w =
     ∷ 9 does Good (Stop (getD w 1 0) (getD w 2 0) (getD w 3 0) (getD w 4 0))
     ∷ 10 does Good (Put (getD w 1 0) (getD w 2 0) (getD w 3 0) (getD w 4 0) (getD w 5 0))
     ∷ 11 does Good (PutLent (getD w 1 0) (getD w 2 0) (getD w 3 0) (getD w 4 0))
+    ∷ 17 does Good (Processor (ShortScan (getD w 1 0) (getD w 2 0) (getD w 3 0) (getD w 4 0) (getD w 5 0)))
+    ∷ 18 does Good (Processor (ShortRepeat (getD w 1 0) (getD w 2 0) (getD w 3 0) (getD w 4 0) (getD w 5 0)))
+    ∷ 19 does Good (Processor (ShortStop (getD w 1 0) (getD w 2 0) (getD w 3 0) (getD w 4 0)))
     ∷ []
 
 -- the step of six words; any other number is garbled

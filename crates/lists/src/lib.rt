@@ -7,11 +7,13 @@ ghost use Rattle.dataway.specs.Crate.{FitCrate};
 ghost use Rattle.controller.specs.Answers.{answerWords};
 ghost use Rattle.controller.specs.Steps.{leaves, gives};
 ghost use Rattle.step.specs.declared.Verdict.{Verdict};
+ghost use Rattle.step.specs.declared.Step.{Step};
 ghost use Rattle.lists.specs.Words.{readingOf, stepWords, withPart, orderAt};
 ghost use Rattle.lists.specs.Runs.{Ran, ranOf};
 use controller::Answer;
 use step::Reading;
 use step::Refusal;
+use step::Short;
 use step::Step;
 
 // The words of a step, of an answer and of a step's buffer.
@@ -77,6 +79,26 @@ pub fn read_step(words: &[u32]) -> Reading
             to: r,
             limit: s,
         }),
+        17 => Reading::Good(Step::Processor(Short::ShortScan {
+            n: p,
+            a: q,
+            f: r,
+            to: s,
+            limit: t,
+        })),
+        18 => Reading::Good(Step::Processor(Short::ShortRepeat {
+            n: p,
+            a: q,
+            f: r,
+            limit: s,
+            tries: t,
+        })),
+        19 => Reading::Good(Step::Processor(Short::ShortStop {
+            n: p,
+            a: q,
+            f: r,
+            limit: s,
+        })),
         _ => Reading::Bad(Refusal::Garbled),
     }
 }
@@ -117,6 +139,25 @@ pub fn write_step(out: &mut [u32], step: Step)
         Step::Stop { n, a, f, limit } => put_six(out, 9, n, a, f, limit, 0),
         Step::Put { n, a, to, limit, w } => put_six(out, 10, n, a, to, limit, w),
         Step::PutLent { n, a, to, limit } => put_six(out, 11, n, a, to, limit, 0),
+        Step::Processor(short) => write_short(out, short),
+    }
+}
+
+// The same of a transfer at the trigger processor's entry.
+fn write_short(out: &mut [u32], short: Short)
+    requires { ⌜ length (now out) ≡ 6 ⌝ }
+    ensures { λ _. ⌜ now (out .exit) ≡ stepWords (Step.Processor short) ⌝ }
+{
+    match short {
+        Short::ShortScan { n, a, f, to, limit } => put_six(out, 17, n, a, f, to, limit),
+        Short::ShortRepeat {
+            n,
+            a,
+            f,
+            limit,
+            tries,
+        } => put_six(out, 18, n, a, f, limit, tries),
+        Short::ShortStop { n, a, f, limit } => put_six(out, 19, n, a, f, limit, 0),
     }
 }
 

@@ -99,6 +99,9 @@ fn show_step(step: Step) {
         Step::PutLent { n, a, to, limit } => {
             show(b"PutLent");
         }
+        Step::Processor(short) => {
+            show(b"Processor");
+        }
     }
 }
 

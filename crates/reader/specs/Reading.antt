@@ -11,7 +11,7 @@ use Rattle.runfile.specs.Read.{readModule}
 use Rattle.dataway.specs.Crate.{FitCrate, emptyCrate}
 use Rattle.step.specs.declared.Reading.{Reading}
 use Rattle.step.specs.declared.Reading.the-variants.{Good, Bad}
-use Rattle.step.specs.declared.Step.the-variants.{Command, Front, Z, C, Inhibit, LookAtMe, Scan, Repeat, Stop, Put, PutLent}
+use Rattle.step.specs.declared.Step.the-variants.{Command, Front, Z, C, Inhibit, LookAtMe, Scan, Repeat, Stop, Put, PutLent, Processor}
 use Rattle.step.specs.declared.Verdict.{Verdict}
 use Rattle.step.specs.declared.Verdict.the-variants.{Fine, Refuse}
 use Rattle.controller.specs.Steps.{Performed, stepOf}
@@ -59,6 +59,7 @@ usesBuffer (Good (Repeat n a f limit tries)) = true
 usesBuffer (Good (Stop n a f limit)) = true
 usesBuffer (Good (Put n a to limit w)) = false
 usesBuffer (Good (PutLent n a to limit)) = true
+usesBuffer (Good (Processor t)) = true
 
 -- after the crate line l, with number k
 unfoldable pub moduleLine : List ℕ → (k : ℕ) → Work → Work

@@ -105,6 +105,7 @@ fn uses_buffer(reading: Reading) -> bool
             Step::Stop { n, a, f, limit } => true,
             Step::Put { n, a, to, limit, w } => false,
             Step::PutLent { n, a, to, limit } => true,
+            Step::Processor(short) => true,
         },
     }
 }

@@ -3,6 +3,7 @@
 pub mod crate_file;
 pub mod list;
 pub mod pair;
+pub mod processor;
 pub mod run_file;
 pub mod scan;
 pub mod single;
@@ -10,6 +11,9 @@ pub mod single;
 pub use crate_file::crate_line;
 pub use list::run_list;
 pub use pair::run_pair;
+pub use processor::processor_repeat;
+pub use processor::processor_scan;
+pub use processor::processor_stop;
 pub use run_file::run_line;
 pub use scan::run_scan;
 pub use single::run_step;

@@ -15,7 +15,8 @@ use Rattle.step.specs.declared.Reading.the-variants.{Good, Bad}
 use Rattle.step.specs.declared.Refusal.{Refusal}
 use Rattle.step.specs.declared.Refusal.the-variants.{Garbled}
 use Rattle.step.specs.declared.Step.{Step}
-use Rattle.step.specs.declared.Step.the-variants.{Command, Front, Z, C, Inhibit, LookAtMe, Scan, Repeat, Stop, Put, PutLent}
+use Rattle.step.specs.declared.Step.the-variants.{Command, Front, Z, C, Inhibit, LookAtMe, Scan, Repeat, Stop, Put, PutLent, Processor}
+use Rattle.step.specs.declared.Short.{Short}
 use Rattle.runfile.specs.Lines.{text, FieldsFit, IsText, Reads}
 use Rattle.runfile.specs.Read.{Taken, taken, absent, Heads, heads, headless, readField, equal, ended, andThen, orElse, exactly}
 use Rattle.runfile.specs.Read.{nafLine, frontLine, bareLine, inhibitLine, scanLine, repeatLine, stopLine, putLine, readLine}
@@ -197,6 +198,7 @@ text-is-good (Stop n a f limit) h =
 text-is-good (Put n a to limit w) h =
     rw (read-number n _ (h .0), read-number a _ (h .1), read-number to _ (h .2), read-number limit _ (h .3), read-number w _ (h .4))
 text-is-good (PutLent n a to limit) h = absurd h
+text-is-good (Processor t) h = absurd h
 
 -- a bad reading has the one number, garbled
 abbrev pub OnlyGarbled : Reading → Type 0
@@ -253,6 +255,10 @@ reads-only l (Bad q) h = go (readLine l) refl (reads l)
 pub no-lent-line : (l : List ℕ) (n a to limit : ℕ) → readLine l ≡ Good (PutLent n a to limit) → ⊥
 no-lent-line l n a to limit e = good-is-text l (PutLent n a to limit) e .1
 
+-- nor a transfer at the trigger processor's entry
+pub no-processor-line : (l : List ℕ) (t : Short) → readLine l ≡ Good (Processor t) → ⊥
+no-processor-line l t e = good-is-text l (Processor t) e .1
+
 -- a line in form has 72 bytes at most
 pub longest-text : (s : Step) → FieldsFit s → length (text s) ≤ 72
 unfolding text
@@ -293,6 +299,7 @@ longest-text (Put n a to limit w) h =
       length-eight w (h .4),
     ))
 longest-text (PutLent n a to limit) h = absurd h
+longest-text (Processor t) h = absurd h
 
 pub short-text : (s : Step) → FieldsFit s → length (text s) ≤ 80
 short-text s h = omega (arith, longest-text s h)

@@ -11,7 +11,7 @@ use Rattle.step.specs.declared.Reading.{Reading}
 use Rattle.step.specs.declared.Reading.the-variants.{Good, Bad}
 use Rattle.step.specs.declared.Refusal.the-variants.{Garbled}
 use Rattle.step.specs.declared.Step.{Step}
-use Rattle.step.specs.declared.Step.the-variants.{Command, Front, Z, C, Inhibit, LookAtMe, Scan, Repeat, Stop, Put, PutLent}
+use Rattle.step.specs.declared.Step.the-variants.{Command, Front, Z, C, Inhibit, LookAtMe, Scan, Repeat, Stop, Put, PutLent, Processor}
 
 -- the line of a step
 unfoldable pub text : Step → List ℕ
@@ -29,6 +29,7 @@ text (Stop n a f limit) = fieldThen "op=stop n=" n (fieldThen " a=" a (fieldThen
 text (Put n a to limit w) =
     fieldThen "op=put n=" n (fieldThen " a=" a (fieldThen " to=" to (fieldThen " limit=" limit (fieldThen " w=" w []))))
 text (PutLent n a to limit) = []  -- it has no line: `FieldsFit` is false of it
+text (Processor t) = []  -- nor has a transfer at the trigger processor's entry
 
 -- the line of a module
 unfoldable pub moduleText : Module → List ℕ
@@ -38,7 +39,7 @@ moduleText p = fieldThen "n=" (p .n) (fieldThen " kind=" (p .kind) (fieldThen " 
 abbrev pub Small : ℕ → Type 0
 Small n = n < 100000000
 
--- each field of the step is such a number; a put of lent words has no line
+-- each field of the step is such a number; a put of lent words has no line, nor has a transfer at the trigger processor's entry
 abbrev pub FieldsFit : Step → Type 0
 FieldsFit (Command n a f w) = Small n × Small a × Small f × Small w
 FieldsFit (Front n a v) = Small n × Small a × Small v
@@ -51,6 +52,7 @@ FieldsFit (Repeat n a f limit tries) = Small n × Small a × Small f × Small li
 FieldsFit (Stop n a f limit) = Small n × Small a × Small f × Small limit
 FieldsFit (Put n a to limit w) = Small n × Small a × Small to × Small limit × Small w
 FieldsFit (PutLent n a to limit) = ⊥
+FieldsFit (Processor t) = ⊥
 
 abbrev pub ModuleFits : Module → Type 0
 ModuleFits p = Small (p .n) × Small (p .kind) × Small (p .r) × Small (p .wide)

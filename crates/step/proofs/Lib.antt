@@ -6,3 +6,4 @@ pub mod Touches
 pub mod ReachedLaws
 pub mod Rows
 pub mod Narrow
+pub mod Entries

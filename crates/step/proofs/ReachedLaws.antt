@@ -9,16 +9,20 @@ use borrow.Author.Tests.{eqb-true, eq-eqb, leb-true, leb-false, le-leb, lt-leb}
 use lib.Dec.{leb}
 use lib.ListN.{length}
 use Rattle.step.specs.declared.Step.{Step}
-use Rattle.step.specs.declared.Step.the-variants.{Command, Front, Z, C, Inhibit, LookAtMe, Scan, Repeat, Stop, Put, PutLent}
+use Rattle.step.specs.declared.Step.the-variants.{Command, Front, Z, C, Inhibit, LookAtMe, Scan, Repeat, Stop, Put, PutLent, Processor}
+use Rattle.step.specs.declared.Short.{Short}
+use Rattle.step.specs.declared.Short.the-variants.{ShortScan, ShortRepeat, ShortStop}
 use Rattle.step.specs.declared.Reading.{Reading}
 use Rattle.step.specs.declared.Reading.the-variants.{Good, Bad}
 use Rattle.step.specs.declared.Verdict.{Verdict}
 use Rattle.step.specs.declared.Verdict.the-variants.{Fine, Refuse}
 use Rattle.step.specs.Verdict.{isFine, stepVerdict, verdictOf}
 use Rattle.step.specs.Touches.{reach, reachOf, touchesOf}
+use Rattle.step.specs.Entries.{generalOf}
 use Rattle.step.specs.Reached.{Reached, TouchesExact}
-use Rattle.step.specs.Reached.Reached.{by-command, by-front, by-repeat, by-stop, by-many, by-scan, by-put, by-put-lent, by-z, by-c, by-i, by-look}
+use Rattle.step.specs.Reached.Reached.{by-command, by-front, by-repeat, by-stop, by-many, by-scan, by-put, by-put-lent, by-processor, by-z, by-c, by-i, by-look}
 use Rattle.step.proofs.Fine.{within-bounds, command-fine, front-fine, scan-fields, repeat-fine, stop-fine, put-fields, put-lent-fields}
+use Rattle.step.proofs.Entries.{short-fine}
 
 -- what the test finds is reached
 pub reach-only : (s : Step) (k : ℕ) → 1 ≤ k → k ≤ 23 → reach s k ≡ true → Reached s k
@@ -37,6 +41,11 @@ reach-only (Repeat n a f limit tries) k lo hi e = subst (Reached (Repeat n a f l
 reach-only (Stop n a f limit) k lo hi e = subst (Reached (Stop n a f limit)) (eqb-true n k e) by-stop
 reach-only (Put n a to limit w) k lo hi e = let h = within-bounds n k to e in by-put (h .0) (h .1)
 reach-only (PutLent n a to limit) k lo hi e = let h = within-bounds n k to e in by-put-lent (h .0) (h .1)
+reach-only (Processor (ShortScan n a f to limit)) k lo hi e = let h = within-bounds n k to e in by-processor {t = ShortScan n a f to limit} (by-scan (h .0) (h .1))
+reach-only (Processor (ShortRepeat n a f limit tries)) k lo hi e =
+    by-processor {t = ShortRepeat n a f limit tries} (subst (Reached (Repeat n a f limit tries)) (eqb-true n k e) by-repeat)
+reach-only (Processor (ShortStop n a f limit)) k lo hi e =
+    by-processor {t = ShortStop n a f limit} (subst (Reached (Stop n a f limit)) (eqb-true n k e) by-stop)
 
 -- and what is reached is found
 pub reach-all : {s : Step} {k : ℕ} → Reached s k → reach s k ≡ true
@@ -48,6 +57,9 @@ reach-all (by-many {n = n} above lo hi) = rw (lt-leb n 23 above)
 reach-all (by-scan {n = n} {to = to} {k = k} lo hi) = rw (le-leb n k lo, le-leb k to hi)
 reach-all (by-put {n = n} {to = to} {k = k} lo hi) = rw (le-leb n k lo, le-leb k to hi)
 reach-all (by-put-lent {n = n} {to = to} {k = k} lo hi) = rw (le-leb n k lo, le-leb k to hi)
+reach-all (by-processor {t = ShortScan n a f to limit} h) = reach-all h
+reach-all (by-processor {t = ShortRepeat n a f limit tries} h) = reach-all h
+reach-all (by-processor {t = ShortStop n a f limit} h) = reach-all h
 reach-all (by-z lo hi) = refl
 reach-all (by-c lo hi) = refl
 reach-all (by-i lo hi) = refl
@@ -70,6 +82,16 @@ reaches-one (Repeat n a f limit tries) b e = let h = repeat-fine n a f limit tri
 reaches-one (Stop n a f limit) b e = let h = stop-fine n a f limit (length b) e in (n, h .0, h .1, by-stop)
 reaches-one (Put n a to limit w) b e = let h = put-fields n a to limit w e in (n, h .0, h .1, by-put {n = n} {k = n} (omega arith) (h .3))
 reaches-one (PutLent n a to limit) b e = let h = put-lent-fields n a to limit b e in (n, h .0, h .1, by-put-lent {n = n} {k = n} (omega arith) (h .3))
+reaches-one (Processor t) b e = go t (short-fine t b e)
+  where
+    go : (t : Short) → isFine (stepVerdict (generalOf t) b) ≡ true → (n : ℕ) × (1 ≤ n) × (n ≤ 23) × Reached (Processor t) n
+    go (ShortScan n a f to limit) h =
+        let h = scan-fields n a f to limit (length b) h in
+        (n, h .0, h .1, by-processor {t = ShortScan n a f to limit} (by-scan {n = n} {k = n} (omega arith) (h .4)))
+    go (ShortRepeat n a f limit tries) h =
+        let h = repeat-fine n a f limit tries (length b) h in
+        (n, h .0, h .1, by-processor {t = ShortRepeat n a f limit tries} by-repeat)
+    go (ShortStop n a f limit) h = let h = stop-fine n a f limit (length b) h in (n, h .0, h .1, by-processor {t = ShortStop n a f limit} by-stop)
 
 is-fine : (v : Verdict) → isFine v ≡ true → v ≡ Fine
 is-fine Fine e = refl

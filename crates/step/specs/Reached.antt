@@ -4,7 +4,9 @@ use mathlib.Core.Path.{_≡_}
 use mathlib.Core.Bool.{true}
 use mathlib.Core.List.{List}
 use Rattle.step.specs.declared.Step.{Step}
-use Rattle.step.specs.declared.Step.the-variants.{Command, Front, Z, C, Inhibit, LookAtMe, Scan, Repeat, Stop, Put, PutLent}
+use Rattle.step.specs.declared.Step.the-variants.{Command, Front, Z, C, Inhibit, LookAtMe, Scan, Repeat, Stop, Put, PutLent, Processor}
+use Rattle.step.specs.declared.Short.{Short}
+use Rattle.step.specs.Entries.{generalOf}
 use Rattle.step.specs.declared.Reading.{Reading}
 use Rattle.step.specs.declared.Reading.the-variants.{Good}
 use Rattle.step.specs.declared.Verdict.the-variants.{Fine}
@@ -25,6 +27,8 @@ pub data Reached : Step → ℕ → Type 0 where
   -- so does a put, of one word or of words lent
   by-put : {n a to limit w k : ℕ} → n ≤ k → k ≤ to → Reached (Put n a to limit w) k
   by-put-lent : {n a to limit k : ℕ} → n ≤ k → k ≤ to → Reached (PutLent n a to limit) k
+  -- a transfer at the trigger processor's entry touches what it touches at the general one
+  by-processor : {t : Short} {k : ℕ} → Reached (generalOf t) k → Reached (Processor t) k
   -- Z, C, I and the Look-at-Me reading touch all 23
   by-z : {k : ℕ} → 1 ≤ k → k ≤ 23 → Reached Z k
   by-c : {k : ℕ} → 1 ≤ k → k ≤ 23 → Reached C k

@@ -2,7 +2,7 @@
 use Prim.Native.Nat.{ℕ}
 use Rattle.step.specs.declared.Refusal.{Refusal}
 use Rattle.step.specs.declared.Refusal.the-variants.{Garbled, NoSuchStation, NoSuchSubaddress, NoSuchFunction, OverwideWord, CrossedRange, BadLength}
-use Rattle.step.specs.declared.Refusal.the-variants.{ShortBuffer, UnfitCrate, BadModule, OutOfOrder, CoveredStation}
+use Rattle.step.specs.declared.Refusal.the-variants.{ShortBuffer, UnfitCrate, BadModule, OutOfOrder, CoveredStation, LongTransfer}
 use Rattle.step.specs.declared.Verdict.{Verdict}
 use Rattle.step.specs.declared.Verdict.the-variants.{Fine, Refuse}
 
@@ -20,10 +20,11 @@ refusalNumber UnfitCrate = 9
 refusalNumber BadModule = 10
 refusalNumber OutOfOrder = 11
 refusalNumber CoveredStation = 12
+refusalNumber LongTransfer = 13
 
 -- how many refusals there are: their numbers are 1 to `refusals`
 abbrev pub refusals : ℕ
-refusals = 12
+refusals = 13
 
 -- the number of a verdict: 0 where nothing is sent back
 abbrev pub verdictNumber : Verdict → ℕ

@@ -7,9 +7,11 @@ use lib.ListN.{length, take}
 use lib.Dec.{leb, eqb}
 use Rattle.kinds.specs.Cases.{isOneOf}
 use Rattle.step.specs.declared.Refusal.{Refusal}
-use Rattle.step.specs.declared.Refusal.the-variants.{NoSuchStation, NoSuchSubaddress, NoSuchFunction, OverwideWord, CrossedRange, BadLength, ShortBuffer}
+use Rattle.step.specs.declared.Refusal.the-variants.{NoSuchStation, NoSuchSubaddress, NoSuchFunction, OverwideWord, CrossedRange, BadLength, ShortBuffer, LongTransfer}
 use Rattle.step.specs.declared.Step.{Step}
-use Rattle.step.specs.declared.Step.the-variants.{Command, Front, Z, C, Inhibit, LookAtMe, Scan, Repeat, Stop, Put, PutLent}
+use Rattle.step.specs.declared.Step.the-variants.{Command, Front, Z, C, Inhibit, LookAtMe, Scan, Repeat, Stop, Put, PutLent, Processor}
+use Rattle.step.specs.declared.Short.{Short}
+use Rattle.step.specs.declared.Short.the-variants.{ShortScan, ShortRepeat, ShortStop}
 use Rattle.step.specs.declared.Reading.{Reading}
 use Rattle.step.specs.declared.Reading.the-variants.{Good, Bad}
 use Rattle.step.specs.declared.Verdict.{Verdict}
@@ -90,6 +92,10 @@ rangeThen n to next = unless (within n to 23) CrossedRange next
 abbrev pub limitThen : ℕ → Verdict → Verdict
 limitThen limit next = unless (within 1 limit 512) BadLength next
 
+-- 13, long transfer: at the trigger processor's entry, limit above 32
+abbrev pub longThen : ℕ → Verdict → Verdict
+longThen limit next = unless (leb limit 32) LongTransfer next
+
 -- 7, bad length: tries outside 1 to 4096
 abbrev pub triesThen : ℕ → Verdict → Verdict
 triesThen tries next = unless (within 1 tries 4096) BadLength next
@@ -134,6 +140,24 @@ unfoldable pub putLentVerdict : ℕ → ℕ → ℕ → ℕ → List ℕ → Ver
 putLentVerdict n a to limit buffer =
     stationThen n (subaddressThen a (rangeThen n to (limitThen limit (lentThen limit (length buffer) (offeredThen (take limit buffer) Fine)))))
 
+-- the three transfers at the trigger processor's entry: the same fields, with one row more, behind limit's: so 0 and above 512 are 7, and 33 to 512 are 13
+unfoldable pub shortScanVerdict : ℕ → ℕ → ℕ → ℕ → ℕ → ℕ → Verdict
+shortScanVerdict n a f to limit lent =
+    stationThen n (subaddressThen a (transferThen f (rangeThen n to (limitThen limit (longThen limit (lentThen limit lent Fine))))))
+
+unfoldable pub shortRepeatVerdict : ℕ → ℕ → ℕ → ℕ → ℕ → ℕ → Verdict
+shortRepeatVerdict n a f limit tries lent =
+    stationThen n (subaddressThen a (transferThen f (limitThen limit (longThen limit (triesThen tries (lentThen limit lent Fine))))))
+
+unfoldable pub shortStopVerdict : ℕ → ℕ → ℕ → ℕ → ℕ → Verdict
+shortStopVerdict n a f limit lent =
+    stationThen n (subaddressThen a (transferThen f (limitThen limit (longThen limit (lentThen limit lent Fine)))))
+
+abbrev pub shortVerdict : Short → ℕ → Verdict
+shortVerdict (ShortScan n a f to limit) lent = shortScanVerdict n a f to limit lent
+shortVerdict (ShortRepeat n a f limit tries) lent = shortRepeatVerdict n a f limit tries lent
+shortVerdict (ShortStop n a f limit) lent = shortStopVerdict n a f limit lent
+
 -- the verdict on a step that is lent this buffer; nothing is wrong with Z, C and the Look-at-Me reading
 abbrev pub stepVerdict : Step → List ℕ → Verdict
 stepVerdict (Command n a f w) buffer = commandVerdict n a f w
@@ -147,6 +171,7 @@ stepVerdict (Repeat n a f limit tries) buffer = repeatVerdict n a f limit tries 
 stepVerdict (Stop n a f limit) buffer = stopVerdict n a f limit (length buffer)
 stepVerdict (Put n a to limit w) buffer = putVerdict n a to limit w
 stepVerdict (PutLent n a to limit) buffer = putLentVerdict n a to limit buffer
+stepVerdict (Processor t) buffer = shortVerdict t (length buffer)
 
 -- the verdict on a reading: one that is no step has its own refusal
 abbrev pub verdictOf : Reading → List ℕ → Verdict

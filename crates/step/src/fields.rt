@@ -7,7 +7,7 @@ use kinds::in_table;
 ghost use mathlib.Core.Path.{_≡_};
 ghost use Rattle.step.specs.Modules.{fitsKind, hasRoom, fitsModule, orderThen, coveredThen, moduleThen};
 ghost use Rattle.step.specs.Verdict.{within, transfer, unless, stationThen, subaddressThen, functionThen, transferThen, wordThen, inhibitThen};
-ghost use Rattle.step.specs.Verdict.{rangeThen, limitThen, triesThen, lentThen, areNarrow, offeredThen};
+ghost use Rattle.step.specs.Verdict.{rangeThen, limitThen, longThen, triesThen, lentThen, areNarrow, offeredThen};
 ghost use Rattle.step.specs.Verdict.{commandStation, commandStationThen, widestOf, commandWordThen};
 ghost use lib.ListN.{take};
 
@@ -23,6 +23,9 @@ const WIDEST_WORD: u32 = 16777215;
 const WIDEST_REGISTER: u32 = 8388607;
 
 const MOST_WORDS: u32 = 512;
+
+// The most words of a transfer at the trigger processor's entry.
+const MOST_SHORT: u32 = 32;
 
 const MOST_TRIES: u32 = 4096;
 
@@ -191,6 +194,12 @@ pub fn limit_then(limit: u32, rest: Verdict) -> Verdict
     ensures { λ r. ⌜ r ≡ limitThen limit rest ⌝ }
 {
     unless(within(1, limit, MOST_WORDS), Refusal::BadLength, rest)
+}
+
+pub fn long_then(limit: u32, rest: Verdict) -> Verdict
+    ensures { λ r. ⌜ r ≡ longThen limit rest ⌝ }
+{
+    unless(limit <= MOST_SHORT, Refusal::LongTransfer, rest)
 }
 
 pub fn tries_then(tries: u32, rest: Verdict) -> Verdict

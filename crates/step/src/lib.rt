@@ -10,6 +10,7 @@ use fields::function_then;
 use fields::inhibit_then;
 use fields::lent_then;
 use fields::limit_then;
+use fields::long_then;
 use fields::module_then;
 use fields::offered_then;
 use fields::order_then;
@@ -24,8 +25,9 @@ use kinds::Module;
 ghost use mathlib.Core.Path.{_≡_};
 ghost use Rattle.step.specs.Modules.{moduleVerdict};
 ghost use Rattle.step.specs.Refusals.{refusalNumber};
-ghost use Rattle.step.specs.Touches.{reach};
+ghost use Rattle.step.specs.Touches.{shortReach, reach};
 ghost use Rattle.step.specs.Verdict.{commandVerdict, frontVerdict, inhibitVerdict, scanVerdict, repeatVerdict, stopVerdict, putVerdict, putLentVerdict, stepVerdict};
+ghost use Rattle.step.specs.Verdict.{shortScanVerdict, shortRepeatVerdict, shortStopVerdict, shortVerdict};
 
 // What is sent back, in the order of the numbers, from 1 on.
 pub enum Refusal {
@@ -41,6 +43,7 @@ pub enum Refusal {
     BadModule,
     OutOfOrder,
     CoveredStation,
+    LongTransfer,
 }
 
 // The kinds of step, each with the fields of its line in a run file.
@@ -97,6 +100,32 @@ pub enum Step {
         to: u32,
         limit: u32,
     },
+    // A transfer at the trigger processor's entry. It has no line in a run file.
+    Processor(Short),
+}
+
+// The transfers at the trigger processor's entry, with the fields of the general entry's.
+pub enum Short {
+    ShortScan {
+        n: u32,
+        a: u32,
+        f: u32,
+        to: u32,
+        limit: u32,
+    },
+    ShortRepeat {
+        n: u32,
+        a: u32,
+        f: u32,
+        limit: u32,
+        tries: u32,
+    },
+    ShortStop {
+        n: u32,
+        a: u32,
+        f: u32,
+        limit: u32,
+    },
 }
 
 // The reading of a run line, or of a step lent as words.
@@ -118,7 +147,7 @@ pub enum Verdict {
 }
 
 // How many refusals there are. Their numbers are 1 to REFUSALS.
-pub const REFUSALS: u32 = 12;
+pub const REFUSALS: u32 = 13;
 
 // The number that stands for a refusal.
 pub fn refusal_number(q: Refusal) -> u32
@@ -137,6 +166,7 @@ pub fn refusal_number(q: Refusal) -> u32
         Refusal::BadModule => 10,
         Refusal::OutOfOrder => 11,
         Refusal::CoveredStation => 12,
+        Refusal::LongTransfer => 13,
     }
 }
 
@@ -162,6 +192,7 @@ pub fn judge(step: Step, buffer: &[u32]) -> Verdict
         Step::Stop { n, a, f, limit } => judge_stop(n, a, f, limit, buffer.len()),
         Step::Put { n, a, to, limit, w } => judge_put(n, a, to, limit, w),
         Step::PutLent { n, a, to, limit } => judge_put_lent(n, a, to, limit, buffer),
+        Step::Processor(short) => judge_short(short, buffer.len()),
     }
 }
 
@@ -187,6 +218,24 @@ pub fn reaches(step: Step, k: u32) -> bool
         Step::Stop { n, a, f, limit } => n == k,
         Step::Put { n, a, to, limit, w } => within(n, k, to),
         Step::PutLent { n, a, to, limit } => within(n, k, to),
+        Step::Processor(short) => short_reaches(short, k),
+    }
+}
+
+// The same of a transfer at the trigger processor's entry.
+fn short_reaches(short: Short, k: u32) -> bool
+    ensures { λ r. ⌜ r ≡ shortReach short k ⌝ }
+{
+    match short {
+        Short::ShortScan { n, a, f, to, limit } => within(n, k, to),
+        Short::ShortRepeat {
+            n,
+            a,
+            f,
+            limit,
+            tries,
+        } => n == k,
+        Short::ShortStop { n, a, f, limit } => n == k,
     }
 }
 
@@ -257,4 +306,47 @@ fn judge_put_lent(n: u32, a: u32, to: u32, limit: u32, buffer: &[u32]) -> Verdic
     let words = lent_then(limit, lent, offered_then(buffer, limit, Verdict::Fine));
     let rest = range_then(n, to, limit_then(limit, words));
     station_then(n, subaddress_then(a, rest))
+}
+
+// The transfers at the trigger processor's entry: the same fields, with one row more, behind limit's.
+
+fn judge_short(short: Short, lent: usize) -> Verdict
+    ensures { λ r. ⌜ r ≡ shortVerdict short lent ⌝ }
+{
+    match short {
+        Short::ShortScan { n, a, f, to, limit } => judge_short_scan(n, a, f, to, limit, lent),
+        Short::ShortRepeat {
+            n,
+            a,
+            f,
+            limit,
+            tries,
+        } => judge_short_repeat(n, a, f, limit, tries, lent),
+        Short::ShortStop { n, a, f, limit } => judge_short_stop(n, a, f, limit, lent),
+    }
+}
+
+fn judge_short_scan(n: u32, a: u32, f: u32, to: u32, limit: u32, lent: usize) -> Verdict
+    ensures { λ r. ⌜ r ≡ shortScanVerdict n a f to limit lent ⌝ }
+{
+    let buffer = lent_then(limit, lent, Verdict::Fine);
+    let lengths = limit_then(limit, long_then(limit, buffer));
+    let rest = transfer_then(f, range_then(n, to, lengths));
+    station_then(n, subaddress_then(a, rest))
+}
+
+fn judge_short_repeat(n: u32, a: u32, f: u32, limit: u32, tries: u32, lent: usize) -> Verdict
+    ensures { λ r. ⌜ r ≡ shortRepeatVerdict n a f limit tries lent ⌝ }
+{
+    let buffer = lent_then(limit, lent, Verdict::Fine);
+    let rest = limit_then(limit, long_then(limit, tries_then(tries, buffer)));
+    station_then(n, subaddress_then(a, transfer_then(f, rest)))
+}
+
+fn judge_short_stop(n: u32, a: u32, f: u32, limit: u32, lent: usize) -> Verdict
+    ensures { λ r. ⌜ r ≡ shortStopVerdict n a f limit lent ⌝ }
+{
+    let words = long_then(limit, lent_then(limit, lent, Verdict::Fine));
+    let rest = limit_then(limit, words);
+    station_then(n, subaddress_then(a, transfer_then(f, rest)))
 }

@@ -1,4 +1,4 @@
--- `first_step` is safe: the six words of the step and the part of the buffer that is lent have as many words as they say.
+-- `first_step` is safe: the six words of the step are as many as it says.
 use mathlib.Core.Path.{sym}
 use native.Mathlib.Omega.{arith}
 use lib.Seq.{length-take-le}
@@ -12,23 +12,11 @@ slice-aggregate-read-step c = sym (length-take-le 6 (c .before .before .before .
 read-step-requires : tie.Need-read-step-requires
 read-step-requires c κs = length-take-le 6 (c .before .before .before .before .before .before .args .steps .now) (omega arith)
 
-slice-aggregate-run-step : tie.Need-slice-aggregate-run-step
-slice-aggregate-run-step c = sym (length-take-le _ _ (omega arith))
-
 pub first-step-spec : {M : Type 1} → statement M
 first-step-spec =
     tie.close
     (tie.spec
-    (λ c κs. search needs)
+    (λ c κs. search needs) (λ c. search needs) (λ c. search needs) (λ c. search needs)
     slice-aggregate-read-step
     read-step-requires
-    (λ c. search needs)
-    (λ c. search needs)
-    slice-aggregate-run-step
-    (λ c κs. search needs)
-    (λ c. search needs)
-    (λ c. search needs)
-    (λ c. search needs)
-    (λ c. search needs)
-    (λ c. search needs)
-    (λ c. search needs))
+    (λ c. search needs) (λ c κs. search needs) (λ c. search needs) (λ c. search needs) (λ c. search needs) (λ c. search needs) (λ c. search needs) (λ c. search needs))

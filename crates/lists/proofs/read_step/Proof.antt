@@ -50,8 +50,20 @@ unfolding readingOf kindsOf
 returns-11 c = rw (c .match .keys11)
 
 returns-12 : tie.Need-returns-12
+unfolding readingOf kindsOf
+returns-12 c = rw (c .match .keys12)
+
+returns-13 : tie.Need-returns-13
+unfolding readingOf kindsOf
+returns-13 c = rw (c .match .keys13)
+
+returns-14 : tie.Need-returns-14
+unfolding readingOf kindsOf
+returns-14 c = rw (c .match .keys14)
+
+returns-15 : tie.Need-returns-15
 unfolding kindsOf
-returns-12 c = reading-else _ (c .match .rest)
+returns-15 c = reading-else _ (c .match .rest)
 
 pub read-step-spec : {M : Type 1} → statement M
 read-step-spec =
@@ -69,4 +81,7 @@ read-step-spec =
     returns-9
     returns-10
     returns-11
-    returns-12)
+    returns-12
+    returns-13
+    returns-14
+    returns-15)

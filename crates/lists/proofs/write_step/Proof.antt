@@ -49,6 +49,10 @@ returns-11 : tie.Need-returns-11
 unfolding stepWords
 returns-11 c = (c .before .before .put-six11 .ensures) ∙ ap stepWords (sym (c .before .before .before .before .before .step8 .given .1))
 
+returns-12 : tie.Need-returns-12
+unfolding stepWords
+returns-12 c = (c .before .before .write-short .ensures) ∙ ap stepWords (sym (c .before .before .before .before .before .step9 .given .1))
+
 pub write-step-spec : {M : Type 1} → statement M
 write-step-spec =
     tie.close
@@ -56,7 +60,8 @@ write-step-spec =
     (λ c. search needs) (λ c κs. search needs) (λ c. search needs) (λ c κs. search needs) (λ c. search needs) (λ c κs. search needs)
     (λ c. search needs) (λ c κs. search needs) (λ c. search needs) (λ c κs. search needs) (λ c. search needs) (λ c κs. search needs)
     (λ c. search needs) (λ c κs. search needs) (λ c. search needs) (λ c κs. search needs) (λ c. search needs) (λ c κs. search needs)
-    (λ c. search needs) (λ c κs. search needs) (λ c. search needs) (λ c κs. search needs) (λ c. search needs)
+    (λ c. search needs) (λ c κs. search needs) (λ c. search needs) (λ c κs. search needs) (λ c. search needs) (λ c κs. search needs)
+    (λ c. search needs)
     returns
     (λ c. search needs)
     returns-2
@@ -77,4 +82,6 @@ write-step-spec =
     (λ c. search needs)
     returns-10
     (λ c. search needs)
-    returns-11)
+    returns-11
+    (λ c. search needs)
+    returns-12)

@@ -24,12 +24,16 @@ returns-11 c = rw ((c .before .before .before .before .reading .given .1), (c .b
 returns-12 : tie.Need-returns-12
 returns-12 c = rw ((c .before .before .before .before .reading .given .1), (c .before .step8 .given .1))
 
+returns-13 : tie.Need-returns-13
+returns-13 c = rw ((c .before .before .before .before .reading .given .1), (c .before .step9 .given .1))
+
 pub uses-buffer-spec : {M : Type 1} → statement M
 uses-buffer-spec =
     tie.close
     (tie.spec
     (λ c. search needs) (λ c. search needs) (λ c. search needs) (λ c. search needs) (λ c. search needs) (λ c. search needs) (λ c. search needs)
     (λ c. search needs) (λ c. search needs) (λ c. search needs) (λ c. search needs) (λ c. search needs) (λ c. search needs) (λ c. search needs)
+    (λ c. search needs)
     returns-2
     returns-3
     (λ c. search needs) (λ c. search needs) (λ c. search needs) (λ c. search needs)
@@ -37,4 +41,5 @@ uses-buffer-spec =
     returns-9
     returns-10
     returns-11
-    returns-12)
+    returns-12
+    returns-13)

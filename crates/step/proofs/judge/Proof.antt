@@ -1,5 +1,5 @@
 -- `step::judge` meets its contract: each arm of the `match` says which step was given, and the call in it gives that
--- step's verdict. The eleven arms stand in turn in the last lines, and then what each of them returns.
+-- step's verdict. The twelve arms stand in turn in the last lines, and then what each of them returns.
 -- Assumes nothing.
 use borrow.Author.Needs.{needs}
 use Rattle.step.proofs.judge.Statement.{statement}
@@ -29,6 +29,9 @@ returns-10 c = rw (c .before .before .step7 .given .1) (c .judge-put .ensures)
 returns-11 : tie.Need-returns-11
 returns-11 c = rw (c .before .before .step8 .given .1) (c .judge-put-lent .ensures)
 
+returns-12 : tie.Need-returns-12
+returns-12 c = rw (c .before .before .step9 .given .1) (c .judge-short .ensures)
+
 pub judge-spec : {M : Type 1} → statement M
 judge-spec =
     tie.close
@@ -44,4 +47,5 @@ judge-spec =
     (λ c. search needs) (λ c κs. search needs)
     (λ c. search needs) (λ c κs. search needs)
     (λ c. search needs) (λ c κs. search needs)
-    returns returns-2 (λ c. search needs) (λ c. search needs) returns-5 (λ c. search needs) returns-7 returns-8 returns-9 returns-10 returns-11)
+    (λ c. search needs) (λ c κs. search needs)
+    returns returns-2 (λ c. search needs) (λ c. search needs) returns-5 (λ c. search needs) returns-7 returns-8 returns-9 returns-10 returns-11 returns-12)
