@@ -2,20 +2,21 @@
 // crate of reference.rs: the number returned, and every word of the memory, answers and buffers.
 //   library SEED COUNT
 // makes COUNT calls, the same ones for the same seed, after some that were worked out by hand: puts of lent words, Repeats and Stops, front events, crate
-// lines and steps in crates with modules two stations wide, commands to N24, 26, 28 and 30, and memories that are not fit.
+// lines and steps in crates with modules two stations wide, commands to N24, 26, 28 and 30, transfers at the trigger processor's entry, and memories
+// that are not fit.
 // Ends with 0 when none differs, with 1 at the first that does, after printing it; a call by hand that differs is a
 // panic; 2 means that the two numbers were not given.
-// What the calls have to do is written from document 01, requests L1, L3, L4, L6 and L7 of document 02, include/pagontxu.h and docs/DECISIONS.md.
+// What the calls have to do is written from document 01, requests L1, L3, L4 and L6 to L8 of document 02, include/pagontxu.h and docs/DECISIONS.md.
 
 #[allow(dead_code)]
 #[path = "reference.rs"]
 mod reference;
 
-use reference::{Answer, Crate, Kind, Module, Step, GARBLED, SHORT_BUFFER};
+use reference::{Answer, Crate, Entry, Kind, Module, Step, GARBLED, SHORT_BUFFER};
 use std::fmt::Debug;
 
 const UNFIT_CRATE: u32 = 9;
-const NUMBERS: usize = 13; // 0 and the twelve refusals
+const NUMBERS: usize = 14; // 0 and the thirteen refusals
 const MEMORY: usize = 768;
 const BLOCK: usize = 32;
 const STEP: usize = 6;
@@ -277,11 +278,14 @@ fn read_step(words: &[u32]) -> Option<Step> {
         4 => Some(Step::C),
         5 => Some(Step::I([f1])),
         6 => Some(Step::Lam),
-        7 => Some(Step::Scan([f1, f2, f3, f4, f5])),
-        8 => Some(Step::Repeat([f1, f2, f3, f4, f5])),
-        9 => Some(Step::Stop([f1, f2, f3, f4])),
+        7 => Some(Step::Scan(Entry::General, [f1, f2, f3, f4, f5])),
+        8 => Some(Step::Repeat(Entry::General, [f1, f2, f3, f4, f5])),
+        9 => Some(Step::Stop(Entry::General, [f1, f2, f3, f4])),
         10 => Some(Step::Put([f1, f2, f3, f4, f5])),
         11 => Some(Step::PutLent([f1, f2, f3, f4])),
+        17 => Some(Step::Scan(Entry::Processor, [f1, f2, f3, f4, f5])),
+        18 => Some(Step::Repeat(Entry::Processor, [f1, f2, f3, f4, f5])),
+        19 => Some(Step::Stop(Entry::Processor, [f1, f2, f3, f4])),
         _ => None,
     }
 }
@@ -615,11 +619,16 @@ fn controller_command(chance: &mut Chance, memory: &[u32], r: u32) -> [u32; 4] {
     }
 }
 
-// The six words of a step; those past its fields are any.
+// First words, most of them no step's.
+const OTHER_KINDS: [u32; 32] = [
+    0, 0, 1, 2, 3, 4, 5, 6, 7, 8, 9, 10, 11, 12, 13, 14, 15, 16, 16, 17, 18, 19, 20, 20, 27, 255, 256, 257, 1 << 16 | 1, 1 << 31 | 3, u32::MAX, u32::MAX,
+];
+
+// The six words of a step; those past its fields are any. Once in a while another first word stands before these fields.
 fn any_step(chance: &mut Chance, memory: &[u32]) -> [u32; STEP] {
     let mut step = [0; STEP];
     step.fill_with(|| chance.word());
-    let kind = match chance.below(100) {
+    let kind = match chance.below(114) {
         0..=31 => 1,
         32..=57 => 2,
         58 => 3,
@@ -631,12 +640,15 @@ fn any_step(chance: &mut Chance, memory: &[u32]) -> [u32; STEP] {
         84..=88 => 9,
         89..=91 => 10,
         92..=95 => 11,
-        _ => chance.pick(&[0, 1, 2, 3, 4, 5, 6, 7, 8, 9, 10, 11, 12, 255, 256, 257, 1 << 16 | 1, 1 << 31 | 3, u32::MAX]),
+        96..=103 => 17,
+        104..=108 => 18,
+        _ => 19,
     };
+    let short = kind >= 17; // at the trigger processor's entry
     let writes = (kind == 10 || kind == 11) && chance.percent(60);
     let (n, r) = station(chance, memory, if writes { &[2, 5] } else { &[1, 2, 3, 4, 5] });
     let n_word = perhaps_past(chance, n, &[0, 24, 25, 26, 27, 28, 29, 30, 31, 32]);
-    step[0] = kind;
+    step[0] = if chance.percent(4) { chance.pick(&OTHER_KINDS) } else { kind };
     match kind {
         1 => {
             let f = function(chance);
@@ -658,25 +670,27 @@ fn any_step(chance: &mut Chance, memory: &[u32]) -> [u32; STEP] {
             let v = chance.pick(&[0, 0, 0, 1]);
             step[1] = perhaps_past(chance, v, &[2, 3, 255, 256, 1 << 24, u32::MAX]);
         }
-        7..=9 => {
+        7..=9 | 17..=19 => {
             let a = if chance.percent(50) { subaddress(chance, r, 0) } else { 0 };
             let f = chance.pick(&[0, 2, 2, 3]);
             let (some, any) = (chance.from(1, 64), chance.from(1, 512));
             let limit = chance.pick(&[1, 2, 3, 16, 17, some, some, any, 512]);
+            let limit = if short && chance.percent(40) { chance.pick(&[0, 31, 32, 32, 32, 33, 34, 511, 513, u32::MAX]) } else { limit };
             let limit = perhaps_past(chance, limit, &[0, 513, 514, 1024, u32::MAX]);
             step[1] = n_word;
             step[2] = perhaps_past(chance, a, &[16, 17, 31, 255]);
             step[3] = perhaps_past(chance, f, &[1, 4, 5, 8, 9, 16, 31, 32]);
             match kind {
-                7 => {
+                7 | 17 => {
                     let to = chance.from(n, 23);
                     let to = chance.pick(&[n, to, to, 23]);
                     step[4] = perhaps_past(chance, to, &[0, n - 1, n / 2, 24, 25, 255]);
                     step[5] = limit;
                 }
-                8 => {
+                8 | 18 => {
                     let (some, any) = (chance.from(1, 64), chance.from(1, 4096));
-                    let tries = chance.pick(&[1, 2, 3, 16, some, some, limit, limit.wrapping_add(1), any]);
+                    let edge = chance.pick(&[0, 1, 4096, 4097]);
+                    let tries = chance.pick(&[1, 2, 3, 16, some, some, limit, limit.wrapping_add(1), any, edge]);
                     step[4] = limit;
                     step[5] = perhaps_past(chance, tries, &[0, 4096, 4097, 8192, u32::MAX]);
                 }
@@ -706,17 +720,19 @@ fn any_step(chance: &mut Chance, memory: &[u32]) -> [u32; STEP] {
 // How many words of buffer to lend for a step: often about as many as its limit.
 fn lent_length(chance: &mut Chance, step: &[u32; STEP]) -> usize {
     let limit = match step[0] {
-        7 => step[5],
-        8 | 9 | 11 => step[4],
+        7 | 17 => step[5],
+        8 | 9 | 11 | 18 | 19 => step[4],
         _ => chance.from(0, 600),
     };
     let limit = limit.min(599) as usize;
     let any = chance.below(601);
-    chance.pick(&[limit, limit, limit, limit + 1, 512, 600, any, any, limit.saturating_sub(1), 0])
+    let about_32 = chance.pick(&[31, 32, 33]);
+    chance.pick(&[limit, limit, limit, limit + 1, 512, 600, any, any, about_32, limit.saturating_sub(1), 0])
 }
 
 // ---- random lines ----
 
+// The line of a step, if it has one; of a transfer at the trigger processor's entry, that of the general one.
 fn run_text(step: &[u32; STEP]) -> String {
     let [kind, a, b, c, d, e] = *step;
     match kind {
@@ -726,9 +742,9 @@ fn run_text(step: &[u32; STEP]) -> String {
         4 => "op=c".to_string(),
         5 => format!("op=i v={a}"),
         6 => "op=lam".to_string(),
-        7 => format!("op=scan n={a} a={b} f={c} to={d} limit={e}"),
-        8 => format!("op=repeat n={a} a={b} f={c} limit={d} tries={e}"),
-        9 => format!("op=stop n={a} a={b} f={c} limit={d}"),
+        7 | 17 => format!("op=scan n={a} a={b} f={c} to={d} limit={e}"),
+        8 | 18 => format!("op=repeat n={a} a={b} f={c} limit={d} tries={e}"),
+        9 | 19 => format!("op=stop n={a} a={b} f={c} limit={d}"),
         10 => format!("op=put n={a} a={b} to={c} limit={d} w={e}"),
         11 => format!("op=put n={a} a={b} to={c} limit={d}"), // garbled: w is missing
         _ => format!("op={kind}"),
@@ -1199,6 +1215,63 @@ const SENT_BY_HAND: &[HandSent] = &[
     ([0, 5], [11, 26, 0, 26, 1, 0], [0, 2, 0, 0], [0, 5], WIDE_IN_5),
 ];
 
+// A scaler of two registers in station 3 and a buffer memory with one word in 5; and with that word taken.
+const WORD_IN_5: &[Stood] = &[(3, [1, 2, 0, 0, 0, 0, 1, 0], 0), (5, [4, 1, 1, 0, 0, 1, 1, 0], 9)];
+const NONE_IN_5: &[Stood] = &[(3, [1, 2, 0, 0, 0, 0, 1, 0], 0), (5, [4, 1, 0, 0, 1, 0, 1, 0], 0)];
+
+// Steps on WORD_IN_5, with 7 at A1 of station 3: the words lent, the answer, the words stored, the stations after.
+type HandShort = ([u32; STEP], usize, [u32; ANSWER], &'static [u32], &'static [Stood]);
+
+// The trigger processor's entry, and the general one beside it.
+const SHORT_BY_HAND: &[HandShort] = &[
+    // a scan: two registers, Q = 0 at A2 and in 4, the word in 5, Q = 0 at A1
+    ([17, 3, 0, 0, 5, 32], 32, [5, 2, 3, 6], &[0, 7, 9], WORD_IN_5),
+    ([17, 3, 0, 0, 5, 33], 33, [0, 13, 0, 0], &[], WORD_IN_5),
+    ([7, 3, 0, 0, 5, 33], 33, [5, 2, 3, 6], &[0, 7, 9], WORD_IN_5),
+    ([17, 3, 0, 0, 5, 1], 1, [5, 1, 1, 1], &[0], WORD_IN_5),
+    ([17, 3, 1, 0, 5, 2], 2, [5, 1, 2, 4], &[7, 9], WORD_IN_5),
+    // a Repeat: F2 takes the word, then Q = 0; of F0 at A1 it stores 32
+    ([18, 5, 0, 2, 32, 3], 32, [5, 2, 1, 3], &[9], NONE_IN_5),
+    ([18, 3, 1, 0, 32, 4096], 33, [5, 1, 32, 32], &[7; 32], WORD_IN_5),
+    ([18, 3, 1, 0, 33, 4096], 33, [0, 13, 0, 0], &[], WORD_IN_5),
+    ([8, 3, 1, 0, 33, 4096], 34, [5, 1, 33, 33], &[7; 33], WORD_IN_5),
+    // a Stop: X = 0 in the empty station; Q = 0 after the word; 32 words
+    ([19, 4, 0, 0, 32, 0], 32, [5, 3, 0, 1], &[], WORD_IN_5),
+    ([19, 5, 0, 2, 2, 0], 2, [5, 2, 1, 2], &[9], NONE_IN_5),
+    ([19, 3, 1, 0, 32, 0], 32, [5, 1, 32, 32], &[7; 32], WORD_IN_5),
+    ([19, 3, 1, 0, 33, 0], 33, [0, 13, 0, 0], &[], WORD_IN_5),
+    ([9, 3, 1, 0, 33, 0], 33, [5, 1, 33, 33], &[7; 33], WORD_IN_5),
+    // 8 asks for `limit` words, after 13
+    ([17, 3, 0, 0, 3, 32], 31, [0, 8, 0, 0], &[], WORD_IN_5),
+    ([17, 3, 0, 0, 3, 32], 32, [5, 2, 2, 3], &[0, 7], WORD_IN_5),
+    ([17, 3, 0, 0, 3, 33], 0, [0, 13, 0, 0], &[], WORD_IN_5),
+    ([7, 3, 0, 0, 3, 33], 32, [0, 8, 0, 0], &[], WORD_IN_5),
+    ([18, 3, 0, 0, 2, 1], 1, [0, 8, 0, 0], &[], WORD_IN_5),
+    ([19, 4, 0, 0, 1, 0], 0, [0, 8, 0, 0], &[], WORD_IN_5),
+    // 2, 3, 4 and 6 before 13
+    ([17, 24, 16, 1, 2, 33], 0, [0, 2, 0, 0], &[], WORD_IN_5),
+    ([17, 3, 16, 1, 2, 33], 0, [0, 3, 0, 0], &[], WORD_IN_5),
+    ([17, 3, 0, 1, 2, 33], 0, [0, 4, 0, 0], &[], WORD_IN_5),
+    ([17, 3, 0, 0, 2, 33], 0, [0, 6, 0, 0], &[], WORD_IN_5),
+    // the limit: 13 up to 512; 7 above, and at 0
+    ([17, 3, 0, 0, 5, 512], 512, [0, 13, 0, 0], &[], WORD_IN_5),
+    ([17, 3, 0, 0, 5, 513], 600, [0, 7, 0, 0], &[], WORD_IN_5),
+    ([17, 3, 0, 0, 5, u32::MAX], 0, [0, 7, 0, 0], &[], WORD_IN_5),
+    ([17, 3, 0, 0, 5, 0], 0, [0, 7, 0, 0], &[], WORD_IN_5),
+    ([19, 4, 0, 0, 0, 0], 0, [0, 7, 0, 0], &[], WORD_IN_5),
+    ([19, 4, 0, 0, 513, 0], 600, [0, 7, 0, 0], &[], WORD_IN_5),
+    // of a Repeat it is judged before the tries, these before 8
+    ([18, 5, 0, 2, 40, 0], 40, [0, 13, 0, 0], &[], WORD_IN_5),
+    ([18, 5, 0, 2, 33, 4097], 0, [0, 13, 0, 0], &[], WORD_IN_5),
+    ([18, 5, 0, 2, 513, 0], 600, [0, 7, 0, 0], &[], WORD_IN_5),
+    ([18, 5, 0, 2, 32, 0], 0, [0, 7, 0, 0], &[], WORD_IN_5),
+    ([18, 5, 0, 2, 32, 4097], 32, [0, 7, 0, 0], &[], WORD_IN_5),
+    // no steps
+    ([16, 3, 0, 0, 5, 32], 32, [0, 1, 0, 0], &[], WORD_IN_5),
+    ([20, 3, 0, 0, 5, 32], 32, [0, 1, 0, 0], &[], WORD_IN_5),
+    ([27, 3, 0, 0, 5, 32], 32, [0, 1, 0, 0], &[], WORD_IN_5),
+];
+
 // Words of WIDE_IN_5 set so that it stays fit, each by station, place in its block, and value.
 const FIT_BY_HAND: &[&[(usize, usize, u32)]] = &[
     &[],
@@ -1361,7 +1434,17 @@ fn try_all_by_hand() {
         let (before, after) = (with_block_0(*inhibit, *register, WIDE_IN_5), with_block_0(*inhibit_after, *register_after, *after));
         try_step(*step, *answer, [&before, &after], [&[77], &[77]]);
     }
-    // F0 at the empty station 20, a crate line for 20, a run line and a list of no steps
+    for (step, lent, answer, stored, after) in SHORT_BY_HAND {
+        let with_register_1 = |stations| {
+            let mut memory = memory_of(stations);
+            memory[station(3) + 17] = 7;
+            memory
+        };
+        let buffer = vec![77; *lent];
+        let buffer_after = [stored, &buffer[stored.len()..]].concat();
+        try_step(*step, *answer, [&with_register_1(WORD_IN_5), &with_register_1(*after)], [&buffer, &buffer_after]);
+    }
+    // F0 at the empty station 20, a long transfer of the trigger processor, a crate line for 20, a run line and a list of no steps
     for (sets, fit) in FIT_BY_HAND.iter().map(|sets| (sets, true)).chain(UNFIT_BY_HAND.iter().map(|sets| (sets, false))) {
         let mut memory = memory_of(WIDE_IN_5);
         sets.iter().for_each(|(n, place, value)| memory[station(*n) + place] = *value);
@@ -1373,6 +1456,7 @@ fn try_all_by_hand() {
         let answer = if fit { [1, 0, 0, 0] } else { [0, UNFIT_CRATE, 0, 0] };
         let lam = if fit { [4, 16 + 128, 2, 5] } else { answer };
         try_step([1, 20, 0, 0, 0, 0], answer, [&memory, &memory], [&[], &[]]);
+        try_step([17, 20, 0, 0, 20, 33], if fit { [0, 13, 0, 0] } else { answer }, [&memory, &memory], [&[], &[]]);
         try_line(19, "n=20 kind=1 r=1 wide=1", number, [&memory, &placed]);
         try_by_hand(Call::RunLine(lent_by_hand(b"op=lam")), number, lam, [&memory, &memory], [&[], &[]]);
         try_by_hand(Call::List(0, lent_by_hand(&[])), number, [0; ANSWER], [&memory, &memory], [&[], &[]]);
@@ -1383,7 +1467,7 @@ fn try_all_by_hand() {
         "  {} crate lines and {} refused, {} steps beside a covered station, {} memories fit and {} unfit",
         LINES_BY_HAND.len(), REFUSED_BY_HAND.len(), WIDE_STEPS_BY_HAND.len(), FIT_BY_HAND.len(), UNFIT_BY_HAND.len()
     );
-    println!("  {} steps with the controller's N", SENT_BY_HAND.len());
+    println!("  {} steps with the controller's N, {} about the trigger processor's entry", SENT_BY_HAND.len(), SHORT_BY_HAND.len());
 }
 
 // ---- what is printed of a difference ----

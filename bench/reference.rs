@@ -1,4 +1,4 @@
-// The crate, its steps and its lines in plain Rust, written from document 01 and requests L1, L3, L4, L6 and L7 of document 02, read as docs/RULES.md has them.
+// The crate, its steps and its lines in plain Rust, written from document 01 and requests L1, L3, L4 and L6 to L8 of document 02, read as docs/RULES.md has them.
 // It shares no code with the proved library, so that library.rs can compare the two call by call.
 
 use std::collections::VecDeque;
@@ -8,6 +8,7 @@ const LONGEST_LINE: usize = 80;
 const MODULUS: u32 = 1 << 24;
 const WORD_MAX: u32 = MODULUS - 1;
 const BUFFER_PLACES: usize = 16;
+const PROCESSOR_WORDS: u32 = 32; // that the trigger processor can hold
 
 pub const GARBLED: u32 = 1;
 const NO_SUCH_STATION: u32 = 2;
@@ -20,6 +21,7 @@ pub const SHORT_BUFFER: u32 = 8;
 const BAD_MODULE: u32 = 10;
 const OUT_OF_ORDER: u32 = 11;
 const COVERED_STATION: u32 = 12;
+const LONG_TRANSFER: u32 = 13;
 
 // ---- modules ----
 
@@ -496,6 +498,15 @@ fn judge_limit(limit: u32) -> Result<(), u32> {
     judge(limit < 1 || limit > 512, BAD_LENGTH)
 }
 
+// Of a scan, Repeat or Stop.
+fn judge_stored(entry: Entry, limit: u32) -> Result<(), u32> {
+    judge_limit(limit)?;
+    match entry {
+        Entry::General => Ok(()),
+        Entry::Processor => judge(limit > PROCESSOR_WORDS, LONG_TRANSFER),
+    }
+}
+
 fn judge_lent(lent: usize, limit: u32) -> Result<(), u32> {
     judge(lent < limit as usize, SHORT_BUFFER)
 }
@@ -517,7 +528,14 @@ fn judge_put(n: u32, a: u32, to: u32, limit: u32) -> Result<(), u32> {
 
 // ---- steps ----
 
-// A step, with its fields in the order of its line.
+// Where a scan, Repeat or Stop is asked for: the trigger processor has an entry of its own, for transfers that it can hold.
+#[derive(Clone, Copy)]
+pub enum Entry {
+    General,
+    Processor,
+}
+
+// A step, with its fields in the order of its line. A line is always at the general entry.
 #[derive(Clone, Copy)]
 pub enum Step {
     Naf([u32; 4]),
@@ -526,9 +544,9 @@ pub enum Step {
     C,
     I([u32; 1]),
     Lam,
-    Scan([u32; 5]),
-    Repeat([u32; 5]),
-    Stop([u32; 4]),
+    Scan(Entry, [u32; 5]),
+    Repeat(Entry, [u32; 5]),
+    Stop(Entry, [u32; 4]),
     Put([u32; 5]),
     PutLent([u32; 4]), // of the buffer's words; it has no line
 }
@@ -578,23 +596,23 @@ pub fn run_step(memory: &mut Crate, step: Step, buffer: &[u32], words: &mut Vec<
             let (l, count, first) = memory.look_at_me();
             Ok(Answer::Looked(l, count, first))
         }
-        Step::Scan([n, a, f, to, limit]) => {
+        Step::Scan(entry, [n, a, f, to, limit]) => {
             judge_transfer(n, a, f)?;
             judge_range(n, to)?;
-            judge_limit(limit)?;
+            judge_stored(entry, limit)?;
             judge_lent(lent, limit)?;
             Ok(Answer::Transferred(memory.scan(n, a, f, to, limit, words)))
         }
-        Step::Repeat([n, a, f, limit, tries]) => {
+        Step::Repeat(entry, [n, a, f, limit, tries]) => {
             judge_transfer(n, a, f)?;
-            judge_limit(limit)?;
+            judge_stored(entry, limit)?;
             judge(tries < 1 || tries > 4096, BAD_LENGTH)?;
             judge_lent(lent, limit)?;
             Ok(Answer::Transferred(memory.repeat(n, a, f, limit, tries, words)))
         }
-        Step::Stop([n, a, f, limit]) => {
+        Step::Stop(entry, [n, a, f, limit]) => {
             judge_transfer(n, a, f)?;
-            judge_limit(limit)?;
+            judge_stored(entry, limit)?;
             judge_lent(lent, limit)?;
             Ok(Answer::Transferred(memory.stop(n, a, f, limit, words)))
         }
@@ -686,13 +704,13 @@ pub fn run_line(line: &[u8]) -> Option<Step> {
         return Some(Step::Lam);
     }
     if let Some(fields) = fields(line, "op=scan", [" n=", " a=", " f=", " to=", " limit="]) {
-        return Some(Step::Scan(fields));
+        return Some(Step::Scan(Entry::General, fields));
     }
     if let Some(fields) = fields(line, "op=repeat", [" n=", " a=", " f=", " limit=", " tries="]) {
-        return Some(Step::Repeat(fields));
+        return Some(Step::Repeat(Entry::General, fields));
     }
     if let Some(fields) = fields(line, "op=stop", [" n=", " a=", " f=", " limit="]) {
-        return Some(Step::Stop(fields));
+        return Some(Step::Stop(Entry::General, fields));
     }
     if let Some(fields) = fields(line, "op=put", [" n=", " a=", " to=", " limit=", " w="]) {
         return Some(Step::Put(fields));

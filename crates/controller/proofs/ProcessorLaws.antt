@@ -3,13 +3,16 @@
 use Prim.Native.Nat.{ℕ, _+_, _-_, _≤_}
 use mathlib.Core.Path.{_≡_, refl, sym, ap, _∙_}
 use mathlib.Core.Bool.{Bool, true, false, false≢true, cond}
+use mathlib.Core.Logic.{inl, inr}
 use mathlib.Core.List.{List, _++_}
 use native.Mathlib.Omega.{arith}
+use native.Mathlib.Decide.{decLt}
 use lib.ListN.{length, drop}
 use lib.Seq.{drop-drop, drop-append-add}
-use Rattle.dataway.specs.Crate.{isFitCrate}
+use Rattle.dataway.specs.Crate.{isFitCrate, FitCrate}
+use Rattle.dataway.proofs.CrateLaws.{crate-facts}
 use Rattle.transfer.specs.declared.Transfer.{Transfer}
-use Rattle.step.specs.Entries.{generalOf}
+use Rattle.step.specs.Entries.{generalOf, limitOf, headOf}
 use Rattle.step.specs.Verdict.{isFine, shortVerdict, stepVerdict}
 use Rattle.step.proofs.Entries.{judged-few, judged-above, judged-head, judged-long, short-few, short-fine}
 use Rattle.step.specs.declared.Refusal.the-variants.{UnfitCrate}
@@ -18,9 +21,9 @@ use Rattle.step.specs.declared.Short.the-variants.{ShortScan, ShortRepeat, Shor
 use Rattle.step.specs.declared.Step.the-variants.{Processor}
 use Rattle.step.specs.declared.Verdict.{Verdict}
 use Rattle.step.specs.declared.Verdict.the-variants.{Fine, Refuse}
-use Rattle.controller.specs.declared.Answer.the-variants.{Transferred, Refused}
+use Rattle.controller.specs.declared.Answer.the-variants.{Transferred}
 use Rattle.controller.specs.Steps.{Performed, refused, shortOf, actOf, judgedOf, doneOf, stepOf}
-use Rattle.controller.specs.Processor.{atProcessor, atGeneral, ShortGeneral, ShortAbove, ShortHead, ShortLong, ShortUnfit, ShortHolds}
+use Rattle.controller.specs.Processor.{atProcessor, atGeneral, ShortGeneral, ShortAbove, ShortHead, ShortLong, ShortUnfit, GeneralOrLong, ShortEither, ShortHolds}
 use Rattle.controller.proofs.StepLaws.{step-done}
 use Rattle.controller.proofs.Sentences.{isRefused, general-words}
 use Rattle.controller.proofs.FinishedLaws.{transferIn}
@@ -60,6 +63,28 @@ short-long m t b f lo hi h =
 pub short-unfit : ShortUnfit
 unfolding stepOf
 short-unfit m t b u = rw u
+
+-- the crate is fit or not, a field before limit is refused or none is, and limit is up to 32, above 512 or between them
+pub short-either : ShortEither
+short-either m t b = by-crate (isFitCrate m) refl
+  where
+    by-limit : FitCrate m → headOf t ≡ Fine → GeneralOrLong m t b
+    by-limit f h =
+        elim (decLt 32 (limitOf t)) [
+          | yes lo ↦ elim (decLt 512 (limitOf t)) [
+            | yes hi ↦ inl (short-above m t b hi)
+            | no hi ↦ let most : limitOf t ≤ 512 = omega arith in inr (f, h, lo, most, short-long m t b f lo most h)
+          ]
+          | no lo ↦ inl (short-general m t b (omega arith))
+        ]
+
+    by-head : FitCrate m → (v : Verdict) → headOf t ≡ v → GeneralOrLong m t b
+    by-head f Fine h = by-limit f h
+    by-head f (Refuse q) h = inl (short-head m t b q h)
+
+    by-crate : (u : Bool) → isFitCrate m ≡ u → GeneralOrLong m t b
+    by-crate true e = by-head (crate-facts m e) (headOf t) refl
+    by-crate false e = inl (short-unfit m t b e)
 
 -- ---- what is stored: at most `limit` words, so at most 32
 -- behind words that are stored a buffer is as it was

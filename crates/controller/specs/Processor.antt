@@ -1,8 +1,8 @@
--- The trigger processor's entry beside the general one (02, L8), said of a step as it is run, from any memory and with any buffer. The crate is fit or not, a field before limit
--- is refused or none is, and limit is 0 to 32, 33 to 512 or above 512: so no case is left out.
+-- The trigger processor's entry beside the general one (RULES 4.23, 6.26): said of a step as it is run, from any memory and with any buffer.
 use Prim.Native.Nat.{ℕ, _≤_, _<_}
 use mathlib.Core.Path.{_≡_}
 use mathlib.Core.Bool.{false}
+use mathlib.Core.Logic.{_⊎_}
 use mathlib.Core.List.{List}
 use lib.ListN.{drop}
 use Rattle.dataway.specs.Crate.{isFitCrate, FitCrate}
@@ -45,6 +45,15 @@ ShortLong = (m : List ℕ) (t : Short) (b : List ℕ) → FitCrate m → 32 < li
 -- A CRATE THAT IS NOT FIT: refused as at the general entry, whatever the fields are
 abbrev pub ShortUnfit : Type 0
 ShortUnfit = (m : List ℕ) (t : Short) (b : List ℕ) → isFitCrate m ≡ false → stepOf m (atProcessor t b) ≡ stepOf m (atGeneral t b)
+
+-- NO CASE IS LEFT OUT: it is the general entry's answer, memory and buffer, or 13 with all that 13 asks for
+abbrev pub GeneralOrLong : List ℕ → Short → List ℕ → Type 0
+GeneralOrLong m t b =
+    (stepOf m (atProcessor t b) ≡ stepOf m (atGeneral t b))
+    ⊎ (FitCrate m × (headOf t ≡ Fine) × (32 < limitOf t) × (limitOf t ≤ 512) × (stepOf m (atProcessor t b) ≡ refused LongTransfer m b))
+
+abbrev pub ShortEither : Type 0
+ShortEither = (m : List ℕ) (t : Short) (b : List ℕ) → GeneralOrLong m t b
 
 -- THE PROCESSOR HOLDS 32 WORDS: no transfer at its entry stores more, or changes the buffer behind them
 abbrev pub ShortHolds : Type 0
