@@ -10,7 +10,7 @@ use Rattle.step.specs.declared.Step.the-variants.{Command, Front, Z, C, Inhibit
 use Rattle.step.specs.declared.Short.the-variants.{ShortScan, ShortRepeat, ShortStop}
 use Rattle.step.specs.declared.Reading.{Reading}
 use Rattle.step.specs.declared.Reading.the-variants.{Good, Bad}
-use Rattle.lists.specs.Words.{stepWords, kindsOf, readingOf}
+use Rattle.lists.specs.Words.{stepWords, TenMore, kindsOf, readingOf}
 
 -- six words stored
 pub six-sets : (xs : List ℕ) (a b c d e f : ℕ) → length xs ≡ 6
@@ -57,3 +57,10 @@ words-tell s t e = ap stepOr (sym (step-back s) ∙ ap readingOf e ∙ step-back
     stepOr : Reading → Step
     stepOr (Good r) = r
     stepOr (Bad q) = s
+
+-- a transfer at the trigger processor's entry beside that at the general one
+pub ten-more : TenMore
+unfolding stepWords
+ten-more (ShortScan n a f to limit) = refl
+ten-more (ShortRepeat n a f limit tries) = refl
+ten-more (ShortStop n a f limit) = refl

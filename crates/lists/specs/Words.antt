@@ -1,12 +1,15 @@
 -- A list of steps lent as words: six words a step and 512 words of buffer a step; four words of answer a step.
 use Prim.Native.Nat.{ℕ, zero, suc, _+_, _*_}
+use mathlib.Core.Path.{_≡_}
 use mathlib.Core.List.{List, [], _∷_, _++_}
 use lib.ListN.{getD, take, drop}
 use Rattle.kinds.specs.Cases.{Case, _does_, caseOf}
 use Rattle.step.specs.declared.Refusal.the-variants.{Garbled}
 use Rattle.step.specs.declared.Step.{Step}
 use Rattle.step.specs.declared.Step.the-variants.{Command, Front, Z, C, Inhibit, LookAtMe, Scan, Repeat, Stop, Put, PutLent, Processor}
+use Rattle.step.specs.declared.Short.{Short}
 use Rattle.step.specs.declared.Short.the-variants.{ShortScan, ShortRepeat, ShortStop}
+use Rattle.step.specs.Entries.{generalOf}
 use Rattle.step.specs.declared.Reading.{Reading}
 use Rattle.step.specs.declared.Reading.the-variants.{Good, Bad}
 use Rattle.controller.specs.Steps.{Order, order}
@@ -29,7 +32,11 @@ stepWords (Processor (ShortScan n a f to limit)) = 17 ∷ n ∷ a ∷ f ∷ to �
 stepWords (Processor (ShortRepeat n a f limit tries)) = 18 ∷ n ∷ a ∷ f ∷ limit ∷ tries ∷ []
 stepWords (Processor (ShortStop n a f limit)) = 19 ∷ n ∷ a ∷ f ∷ limit ∷ 0 ∷ []
 
--- the same read back: what each first word stands for; words past a step's fields are not looked at
+-- AT THE TRIGGER PROCESSOR'S ENTRY the first word is ten more than at the general one, and the others are the same
+abbrev pub TenMore : Type 0
+TenMore = (t : Short) → stepWords (Processor t) ≡ (getD (stepWords (generalOf t)) 0 0 + 10) ∷ drop 1 (stepWords (generalOf t))
+
+-- the six words read back: what each first word stands for; words past a step's fields are not looked at
 unfoldable pub kindsOf : List ℕ → List (Case Reading)
 kindsOf w =
     1 does Good (Command (getD w 1 0) (getD w 2 0) (getD w 3 0) (getD w 4 0))
