@@ -101,15 +101,15 @@ abbrev Holds : List ℕ → Performed → Type 0
 Holds b o = ((p : Transfer) → o .out .answer ≡ Transferred p → p .words ≤ 32) × (drop 32 (o .out .buffer) ≡ drop 32 b)
 
 -- a refusal tells of no words
-none-told : (m b : List ℕ) (o : Performed) → isRefused (o .out .answer) ≡ true → drop 32 (o .out .buffer) ≡ drop 32 b → Holds b o
-none-told m b o r e = (λ p h. absurd (false≢true (sym (ap isRefused h) ∙ r)), e)
+none-told : (b : List ℕ) (o : Performed) → isRefused (o .out .answer) ≡ true → drop 32 (o .out .buffer) ≡ drop 32 b → Holds b o
+none-told b o r e = (λ p h. absurd (false≢true (sym (ap isRefused h) ∙ r)), e)
 
 judged-holds : (v : Verdict) (m : List ℕ) (t : Short) (b : List ℕ) → shortVerdict t (length b) ≡ v → Holds b (judgedOf v m (Processor t) b)
 judged-holds Fine m t b e =
     let fine = ap isFine e in
     let few : length (shortOf m t .words) ≤ 32 = omega (arith, general-words m t b (short-fine t b fine) .0, short-few t (length b) fine) in
     (λ p h. omega (arith, few, ap (λ (x : Transfer). x .words) (ap transferIn h)), stays (shortOf m t .words) b 32 few)
-judged-holds (Refuse q) m t b e = none-told m b (refused q m b) refl refl
+judged-holds (Refuse q) m t b e = none-told b (refused q m b) refl refl
 
 pub short-holds : ShortHolds
 unfolding stepOf doneOf
@@ -117,4 +117,4 @@ short-holds m t b = go (isFitCrate m)
   where
     go : (u : Bool) → Holds b (cond u (judgedOf (shortVerdict t (length b)) m (Processor t) b) (refused UnfitCrate m b))
     go true = judged-holds (shortVerdict t (length b)) m t b refl
-    go false = none-told m b (refused UnfitCrate m b) refl refl
+    go false = none-told b (refused UnfitCrate m b) refl refl

@@ -12,7 +12,9 @@ use Rattle.step.specs.Refusals.{refusalNumber, refusals}
 
 -- the rows
 abbrev pub rows : List Refusal
-rows = Garbled ∷ NoSuchStation ∷ NoSuchSubaddress ∷ NoSuchFunction ∷ OverwideWord ∷ CrossedRange ∷ BadLength ∷ ShortBuffer ∷ UnfitCrate ∷ BadModule ∷ OutOfOrder ∷ CoveredStation ∷ LongTransfer ∷ []
+rows =
+    Garbled ∷ NoSuchStation ∷ NoSuchSubaddress ∷ NoSuchFunction ∷ OverwideWord ∷ CrossedRange ∷ BadLength
+    ∷ ShortBuffer ∷ UnfitCrate ∷ BadModule ∷ OutOfOrder ∷ CoveredStation ∷ LongTransfer ∷ []
 
 -- there are no more and no fewer than are named
 pub rows-count : length rows ≡ refusals
