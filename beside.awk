@@ -35,9 +35,10 @@ BEGIN {
     meaning[10] = "bad module: kind is outside 1 to 5, r is not of its kind, wide is not 1 or 2, or wide is 2 in 23"
     meaning[11] = "out of order: the station is not above that of the line before"
     meaning[12] = "covered station: the module to its left is two stations wide"
+    meaning[14] = "crossed window: lo is above hi"
 }
 
-$1 == "step" { row(run, "none of the ten forms") }
+$1 == "step" { row(run, "none of the eleven forms") }
 
 $1 == "crate" {
     row(lines("crate.txt"), "not n= kind= r= wide=")
@@ -73,14 +74,16 @@ function answer(line, misfit,    words) {
         words = ended($4, line) ": " counted($6, "word") " in " counted($8, "cycle")
         return words (line ~ /^op=put / ? "" : stored($6))
     }
+    if ($3 == "words") return counted($4, "register") " inside the window" listed($4)
     if ($3 == "refused" && $4 in meaning) return "refused (" $4 "): " refusal($4, line) ($4 == 1 ? ": " fault(line, misfit) : "")
     return substr($0, index($0, " ") + 1)
 }
 
-# A command has numbers of its own for N, and one a narrower W.
+# A command has numbers of its own for N, and one a narrower W; a listing has bounds.
 function refusal(number, line) {
     if (number == 2 && line ~ /^op=naf /) return meaning[2] ", and not 24, 26, 28 or 30"
     if (number == 5 && line ~ /^op=naf n=30 a=8 f=16 /) return "overwide word: the Station Number Register has 23 bits, and w is above 8388607"
+    if (number == 5 && line ~ /^op=within /) return "overwide word: lo or hi is above 16777215"
     return meaning[number]
 }
 
@@ -122,6 +125,13 @@ function ended(end, line) {
 
 function counted(count, thing) {
     return count " " thing (count == 1 ? "" : "s")
+}
+
+# The registers of a listing, by station and subaddress: the sheet's next lines.
+function listed(count,    each) {
+    if (count > 0) each = ":"
+    while (count-- > 0 && getline > 0 && /^word=/) each = each " N" int($2 / 16) " A" $2 % 16 (count > 0 ? "," : "")
+    return each
 }
 
 # The words of a transfer: the sheet's next lines. A put has none.

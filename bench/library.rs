@@ -2,11 +2,11 @@
 // crate of reference.rs: the number returned, and every word of the memory, answers and buffers.
 //   library SEED COUNT
 // makes COUNT calls, the same ones for the same seed, after some that were worked out by hand: puts of lent words, Repeats and Stops, front events, crate
-// lines and steps in crates with modules two stations wide, commands to N24, 26, 28 and 30, transfers at the trigger processor's entry, and memories
-// that are not fit.
+// lines and steps in crates with modules two stations wide, commands to N24, 26, 28 and 30, transfers at the trigger processor's entry, windows, and
+// memories that are not fit.
 // Ends with 0 when none differs, with 1 at the first that does, after printing it; a call by hand that differs is a
 // panic; 2 means that the two numbers were not given.
-// What the calls have to do is written from document 01, requests L1, L3, L4 and L6 to L8 of document 02, include/pagontxu.h and docs/DECISIONS.md.
+// What the calls have to do is written from document 01, requests L1, L3, L4 and L6 to L9 of document 02, include/pagontxu.h and docs/DECISIONS.md.
 
 #[allow(dead_code)]
 #[path = "reference.rs"]
@@ -16,7 +16,7 @@ use reference::{Answer, Crate, Entry, Kind, Module, Step, GARBLED, SHORT_BUFFER}
 use std::fmt::Debug;
 
 const UNFIT_CRATE: u32 = 9;
-const NUMBERS: usize = 14; // 0 and the thirteen refusals
+const NUMBERS: usize = 15; // 0 and the fourteen refusals
 const MEMORY: usize = 768;
 const BLOCK: usize = 32;
 const STEP: usize = 6;
@@ -283,6 +283,7 @@ fn read_step(words: &[u32]) -> Option<Step> {
         9 => Some(Step::Stop(Entry::General, [f1, f2, f3, f4])),
         10 => Some(Step::Put([f1, f2, f3, f4, f5])),
         11 => Some(Step::PutLent([f1, f2, f3, f4])),
+        12 => Some(Step::Within([f1, f2, f3, f4])),
         17 => Some(Step::Scan(Entry::Processor, [f1, f2, f3, f4, f5])),
         18 => Some(Step::Repeat(Entry::Processor, [f1, f2, f3, f4, f5])),
         19 => Some(Step::Stop(Entry::Processor, [f1, f2, f3, f4])),
@@ -305,6 +306,7 @@ fn run(memory: &mut [u32], step: Option<Step>, buffer: &mut [u32]) -> Result<[u3
         Answer::Looked(l, count, first) => [4, l, count, first],
         Answer::Transferred(transfer) => [5, transfer.end, words.len() as u32, transfer.cycles],
         Answer::Wrote(transfer, used) => [6, transfer.end, used, transfer.cycles],
+        Answer::Listed(count) => [7, count, 0, 0],
     })
 }
 
@@ -619,16 +621,31 @@ fn controller_command(chance: &mut Chance, memory: &[u32], r: u32) -> [u32; 4] {
     }
 }
 
+// The bounds of a window: a word that stands in a register from station n to `to`, or any, inside, at an edge or just outside; at times crossed, by one or more.
+fn window(chance: &mut Chance, memory: &[u32], n: u32, to: u32) -> [u32; 2] {
+    let block = &memory[BLOCK * chance.from(n, to) as usize..];
+    let v = match block[1] {
+        0 => word24(chance),
+        r => block[16 + chance.below(r as usize)],
+    };
+    let (low, high, other) = (chance.from(0, v), chance.from(v, WORD_MAX), word24(chance));
+    let (less, more) = (v.saturating_sub(1), v + 1);
+    chance.pick(&[
+        [v, v], [v, v], [v, v], [less, more], [v, high], [low, v], [low, high], [v.min(other), v.max(other)], [0, v], [v, WORD_MAX], [0, WORD_MAX],
+        [low, less], [more, high], [more, v], [v, other], [v, WORD_MAX + 1],
+    ])
+}
+
 // First words, most of them no step's.
-const OTHER_KINDS: [u32; 32] = [
-    0, 0, 1, 2, 3, 4, 5, 6, 7, 8, 9, 10, 11, 12, 13, 14, 15, 16, 16, 17, 18, 19, 20, 20, 27, 255, 256, 257, 1 << 16 | 1, 1 << 31 | 3, u32::MAX, u32::MAX,
+const OTHER_KINDS: [u32; 33] = [
+    0, 0, 1, 2, 3, 4, 5, 6, 7, 8, 9, 10, 11, 12, 13, 13, 14, 15, 16, 16, 17, 18, 19, 20, 20, 27, 255, 256, 257, 1 << 16 | 1, 1 << 31 | 3, u32::MAX, u32::MAX,
 ];
 
 // The six words of a step; those past its fields are any. Once in a while another first word stands before these fields.
 fn any_step(chance: &mut Chance, memory: &[u32]) -> [u32; STEP] {
     let mut step = [0; STEP];
     step.fill_with(|| chance.word());
-    let kind = match chance.below(114) {
+    let kind = match chance.below(126) {
         0..=31 => 1,
         32..=57 => 2,
         58 => 3,
@@ -640,13 +657,18 @@ fn any_step(chance: &mut Chance, memory: &[u32]) -> [u32; STEP] {
         84..=88 => 9,
         89..=91 => 10,
         92..=95 => 11,
-        96..=103 => 17,
-        104..=108 => 18,
+        96..=107 => 12,
+        108..=115 => 17,
+        116..=120 => 18,
         _ => 19,
     };
     let short = kind >= 17; // at the trigger processor's entry
-    let writes = (kind == 10 || kind == 11) && chance.percent(60);
-    let (n, r) = station(chance, memory, if writes { &[2, 5] } else { &[1, 2, 3, 4, 5] });
+    let modules: &[u32] = match kind {
+        10 | 11 if chance.percent(60) => &[2, 5],
+        12 if chance.percent(60) => &[1, 3, 5],
+        _ => &[1, 2, 3, 4, 5],
+    };
+    let (n, r) = station(chance, memory, modules);
     let n_word = perhaps_past(chance, n, &[0, 24, 25, 26, 27, 28, 29, 30, 31, 32]);
     step[0] = if chance.percent(4) { chance.pick(&OTHER_KINDS) } else { kind };
     match kind {
@@ -712,22 +734,32 @@ fn any_step(chance: &mut Chance, memory: &[u32]) -> [u32; STEP] {
                 step[5] = perhaps_past(chance, w, &[1 << 24, (1 << 24) + 1, 1 << 31, u32::MAX]);
             }
         }
+        12 => {
+            let to = chance.from(n, 23);
+            let to = chance.pick(&[n, to, to, 23]);
+            let [lo, hi] = window(chance, memory, n, to);
+            step[1] = n_word;
+            step[2] = perhaps_past(chance, to, &[0, n - 1, n / 2, 24, 25, 255]);
+            step[3] = perhaps_past(chance, lo, &[1 << 24, (1 << 24) + 1, 1 << 31, u32::MAX]);
+            step[4] = perhaps_past(chance, hi, &[1 << 24, (1 << 24) + 1, 1 << 31, u32::MAX]);
+        }
         _ => {}
     }
     step
 }
 
-// How many words of buffer to lend for a step: often about as many as its limit.
+// How many words of buffer to lend for a step: often about as many as its limit or its stations ask for.
 fn lent_length(chance: &mut Chance, step: &[u32; STEP]) -> usize {
-    let limit = match step[0] {
+    let asked = match step[0] {
         7 | 17 => step[5],
         8 | 9 | 11 | 18 | 19 => step[4],
+        12 if step[1] <= step[2] && step[2] <= 23 => 16 * (step[2] - step[1] + 1),
         _ => chance.from(0, 600),
     };
-    let limit = limit.min(599) as usize;
+    let asked = asked.min(599) as usize;
     let any = chance.below(601);
     let about_32 = chance.pick(&[31, 32, 33]);
-    chance.pick(&[limit, limit, limit, limit + 1, 512, 600, any, any, about_32, limit.saturating_sub(1), 0])
+    chance.pick(&[asked, asked, asked, asked + 1, 512, 600, any, any, about_32, asked.saturating_sub(1), 0])
 }
 
 // ---- random lines ----
@@ -747,6 +779,7 @@ fn run_text(step: &[u32; STEP]) -> String {
         9 | 19 => format!("op=stop n={a} a={b} f={c} limit={d}"),
         10 => format!("op=put n={a} a={b} to={c} limit={d} w={e}"),
         11 => format!("op=put n={a} a={b} to={c} limit={d}"), // garbled: w is missing
+        12 => format!("op=within n={a} to={b} lo={c} hi={d}"),
         _ => format!("op={kind}"),
     }
 }
@@ -1206,13 +1239,14 @@ const SENT_BY_HAND: &[HandSent] = &[
     ([0, 5], [1, 30, 8, 16, 8388608, 0], [0, 5, 0, 0], [0, 5], WIDE_IN_5),
     ([0, 5], [1, 30, 8, 17, 16777216, 0], [0, 5, 0, 0], [0, 5], WIDE_IN_5),
     ([0, 5], [1, 24, 0, 0, 16777216, 0], [0, 5, 0, 0], [0, 5], WIDE_IN_5),
-    // front events, transfers and puts have stations only
+    // front events, transfers, puts and windows have stations only
     ([0, 5], [2, 24, 0, 1, 0, 0], [0, 2, 0, 0], [0, 5], WIDE_IN_5),
     ([0, 5], [7, 26, 0, 0, 26, 1], [0, 2, 0, 0], [0, 5], WIDE_IN_5),
     ([0, 5], [8, 28, 0, 0, 1, 1], [0, 2, 0, 0], [0, 5], WIDE_IN_5),
     ([0, 5], [9, 30, 0, 0, 1, 0], [0, 2, 0, 0], [0, 5], WIDE_IN_5),
     ([0, 5], [10, 24, 0, 24, 1, 0], [0, 2, 0, 0], [0, 5], WIDE_IN_5),
     ([0, 5], [11, 26, 0, 26, 1, 0], [0, 2, 0, 0], [0, 5], WIDE_IN_5),
+    ([0, 5], [12, 28, 28, 0, 0, 0], [0, 2, 0, 0], [0, 5], WIDE_IN_5),
 ];
 
 // A scaler of two registers in station 3 and a buffer memory with one word in 5; and with that word taken.
@@ -1270,6 +1304,108 @@ const SHORT_BY_HAND: &[HandShort] = &[
     ([16, 3, 0, 0, 5, 32], 32, [0, 1, 0, 0], &[], WORD_IN_5),
     ([20, 3, 0, 0, 5, 32], 32, [0, 1, 0, 0], &[], WORD_IN_5),
     ([27, 3, 0, 0, 5, 32], 32, [0, 1, 0, 0], &[], WORD_IN_5),
+];
+
+// I and the Station Number Register set; a scaler of two registers in 3, an output register of two in 4, a counter of three in 5, a buffer memory with one word
+// in 7, an input register two stations wide in 8, a scaler in 23.
+const IN_A_WINDOW: &[Stood] = &[
+    (0, [1, 5, 0, 0, 0, 0, 0, 0], 0),
+    (3, [1, 2, 0, 3, 0, 0, 1, 0], 0),
+    (4, [2, 2, 0, 0, 0, 0, 1, 0], 5),
+    (5, [5, 3, 7, 0, 0, 0, 1, 0], 0),
+    (7, [4, 1, 1, 1, 0, 1, 1, 0], 5),
+    (8, [3, 1, 1, 1, 0, 0, 2, 0], 7),
+    (9, COVERED, 0),
+    (23, [1, 1, 0, 0, 0, 0, 1, 0], 5),
+];
+// Its registers behind the first that are not 0, each by station, place in its block, and value.
+const BEHIND_THE_FIRST: &[(usize, usize, u32)] = &[(3, 17, 5), (4, 17, 6), (5, 17, 6), (5, 18, 16777215)];
+
+// Windows on IN_A_WINDOW, which stays as it is: the step, the words lent, the answer, the numbers listed.
+type HandWindow = ([u32; STEP], usize, [u32; ANSWER], &'static [u32]);
+
+const WINDOWS_BY_HAND: &[HandWindow] = &[
+    // 5 and about it: A1 of 3, and A0 of 23; the output register and the buffer memory hold it too, and are not listed
+    ([12, 3, 7, 5, 5, 0], 80, [7, 1, 0, 0], &[49]),
+    ([12, 1, 23, 5, 5, 0], 368, [7, 2, 0, 0], &[49, 368]),
+    ([12, 1, 23, 4, 5, 0], 512, [7, 2, 0, 0], &[49, 368]),
+    ([12, 1, 23, 5, 6, 0], 512, [7, 3, 0, 0], &[49, 81, 368]),
+    ([12, 1, 23, 6, 7, 0], 600, [7, 2, 0, 0], &[81, 128]),
+    ([12, 1, 23, 1, 4, 0], 368, [7, 0, 0, 0], &[]),
+    ([12, 1, 22, 5, 5, 0], 352, [7, 1, 0, 0], &[49]),
+    ([12, 23, 23, 5, 5, 0], 16, [7, 1, 0, 0], &[368]),
+    // a word more than is asked for stays, as do all behind the list
+    ([12, 23, 23, 5, 5, 0], 17, [7, 1, 0, 0], &[368]),
+    // the sixth word is not looked at
+    ([12, 23, 23, 5, 5, u32::MAX], 16, [7, 1, 0, 0], &[368]),
+    // 0: A2 of 3 and A3 of 5 are no registers
+    ([12, 3, 7, 0, 0, 0], 80, [7, 2, 0, 0], &[48, 80]),
+    ([12, 3, 3, 0, 4, 0], 16, [7, 1, 0, 0], &[48]),
+    // all words
+    ([12, 3, 9, 0, 16777215, 0], 112, [7, 6, 0, 0], &[48, 49, 80, 81, 82, 128]),
+    ([12, 5, 5, 0, 16777215, 0], 512, [7, 3, 0, 0], &[80, 81, 82]),
+    // -1 of the counter is 16777215
+    ([12, 1, 23, 16777215, 16777215, 0], 368, [7, 1, 0, 0], &[82]),
+    ([12, 1, 23, 8388608, 16777215, 0], 512, [7, 1, 0, 0], &[82]),
+    ([12, 5, 5, 0, 16777214, 0], 16, [7, 2, 0, 0], &[80, 81]),
+    ([12, 5, 5, 8388607, 16777214, 0], 16, [7, 0, 0, 0], &[]),
+    // nothing is listed of an output register, a buffer memory, a covered station, empty ones
+    ([12, 4, 4, 0, 16777215, 0], 16, [7, 0, 0, 0], &[]),
+    ([12, 7, 7, 0, 16777215, 0], 16, [7, 0, 0, 0], &[]),
+    ([12, 9, 9, 0, 16777215, 0], 16, [7, 0, 0, 0], &[]),
+    ([12, 10, 22, 0, 16777215, 0], 512, [7, 0, 0, 0], &[]),
+    // 8: sixteen words a station, whatever the list's length
+    ([12, 3, 7, 5, 5, 0], 79, [0, 8, 0, 0], &[]),
+    ([12, 3, 7, 5, 5, 0], 1, [0, 8, 0, 0], &[]),
+    ([12, 23, 23, 5, 5, 0], 15, [0, 8, 0, 0], &[]),
+    ([12, 1, 23, 5, 5, 0], 367, [0, 8, 0, 0], &[]),
+    ([12, 10, 11, 0, 0, 0], 31, [0, 8, 0, 0], &[]),
+    ([12, 10, 10, 0, 0, 0], 0, [0, 8, 0, 0], &[]),
+    // 14, before 8
+    ([12, 3, 7, 6, 5, 0], 80, [0, 14, 0, 0], &[]),
+    ([12, 3, 7, 1, 0, 0], 512, [0, 14, 0, 0], &[]),
+    ([12, 3, 7, 16777215, 16777214, 0], 79, [0, 14, 0, 0], &[]),
+    ([12, 3, 7, 16777215, 0, 0], 0, [0, 14, 0, 0], &[]),
+    // 5 for either bound, before 14 and 8
+    ([12, 3, 7, 16777216, 16777215, 0], 80, [0, 5, 0, 0], &[]),
+    ([12, 3, 7, 16777216, 0, 0], 0, [0, 5, 0, 0], &[]),
+    ([12, 3, 7, 0, 16777216, 0], 512, [0, 5, 0, 0], &[]),
+    ([12, 3, 7, 5, 16777221, 0], 0, [0, 5, 0, 0], &[]),
+    ([12, 3, 7, 0, 99999999, 0], 80, [0, 5, 0, 0], &[]),
+    ([12, 3, 7, 16777217, 16777216, 0], 80, [0, 5, 0, 0], &[]),
+    // 6, before 5, 14 and 8
+    ([12, 3, 2, 16777216, 16777216, 0], 512, [0, 6, 0, 0], &[]),
+    ([12, 3, 24, 6, 5, 0], 512, [0, 6, 0, 0], &[]),
+    ([12, 3, 0, 5, 5, 0], 0, [0, 6, 0, 0], &[]),
+    ([12, 23, 24, 5, 5, 0], 32, [0, 6, 0, 0], &[]),
+    ([12, 3, 263, 5, 5, 0], 512, [0, 6, 0, 0], &[]),
+    ([12, 1, 99999999, 0, 16777216, 0], 0, [0, 6, 0, 0], &[]),
+    // 2, before all these; 24, 26, 28 and 30 are no stations
+    ([12, 0, 7, 5, 5, 0], 512, [0, 2, 0, 0], &[]),
+    ([12, 0, 24, 6, 16777216, 0], 0, [0, 2, 0, 0], &[]),
+    ([12, 24, 2, 16777216, 5, 0], 0, [0, 2, 0, 0], &[]),
+    ([12, 24, 24, 5, 5, 0], 512, [0, 2, 0, 0], &[]),
+    ([12, 25, 25, 6, 5, 0], 512, [0, 2, 0, 0], &[]),
+    ([12, 26, 26, 5, 5, 0], 512, [0, 2, 0, 0], &[]),
+    ([12, 28, 23, 5, 5, 0], 512, [0, 2, 0, 0], &[]),
+    ([12, 30, 30, 5, 5, 0], 512, [0, 2, 0, 0], &[]),
+    ([12, 259, 263, 5, 5, 0], 512, [0, 2, 0, 0], &[]),
+    ([12, 99999999, 99999999, 6, 5, 0], 512, [0, 2, 0, 0], &[]),
+    // no steps
+    ([13, 3, 7, 5, 5, 0], 512, [0, 1, 0, 0], &[]),
+    ([28, 3, 7, 5, 5, 0], 512, [0, 1, 0, 0], &[]),
+    ([268, 24, 2, 6, 5, 0], 0, [0, 1, 0, 0], &[]),
+];
+
+// Windows on a full crate whose registers, sixteen a station, hold each its own number: the step, the words lent, the first and the last number listed.
+const FULL_BY_HAND: &[([u32; STEP], usize, [u32; 2])] = &[
+    ([12, 1, 23, 0, 16777215, 0], 368, [16, 383]),
+    ([12, 1, 23, 16, 383, 0], 512, [16, 383]),
+    ([12, 1, 23, 17, 382, 0], 369, [17, 382]),
+    ([12, 1, 1, 0, 16777215, 0], 16, [16, 31]),
+    ([12, 2, 22, 31, 368, 0], 512, [32, 367]),
+    ([12, 3, 5, 79, 80, 0], 48, [79, 80]),
+    ([12, 23, 23, 383, 383, 0], 600, [383, 383]),
 ];
 
 // Words of WIDE_IN_5 set so that it stays fit, each by station, place in its block, and value.
@@ -1376,6 +1512,18 @@ fn try_step(step: [u32; STEP], answer: [u32; ANSWER], memory: [&[u32]; 2], buffe
     try_by_hand(Call::Step(lent_by_hand(&step)), number, answer, memory, buffer);
 }
 
+// A window as a step, as a line, and, where as many words are lent as a step of a list has, as a list of one step.
+fn try_window(step: [u32; STEP], lent: usize, answer: [u32; ANSWER], memory: &[u32], listed: &[u32]) {
+    let number = if answer[0] == 0 { answer[1] } else { 0 };
+    let buffer = vec![77; lent];
+    let after = [listed, &buffer[listed.len()..]].concat();
+    try_step(step, answer, [memory, memory], [&buffer, &after]);
+    try_by_hand(Call::RunLine(lent_by_hand(run_text(&step).as_bytes())), number, answer, [memory, memory], [&buffer, &after]);
+    if lent == BUFFER {
+        try_by_hand(Call::List(1, lent_by_hand(&step)), 0, answer, [memory, memory], [&buffer, &after]);
+    }
+}
+
 fn try_line(previous: u32, line: &str, number: u32, memory: [&[u32]; 2]) {
     try_by_hand(Call::CrateLine(previous, lent_by_hand(line.as_bytes())), number, [0; ANSWER], memory, [&[], &[]]);
 }
@@ -1444,7 +1592,21 @@ fn try_all_by_hand() {
         let buffer_after = [stored, &buffer[stored.len()..]].concat();
         try_step(*step, *answer, [&with_register_1(WORD_IN_5), &with_register_1(*after)], [&buffer, &buffer_after]);
     }
-    // F0 at the empty station 20, a long transfer of the trigger processor, a crate line for 20, a run line and a list of no steps
+    let mut in_a_window = memory_of(IN_A_WINDOW);
+    BEHIND_THE_FIRST.iter().for_each(|(n, place, value)| in_a_window[station(*n) + place] = *value);
+    for (step, lent, answer, listed) in WINDOWS_BY_HAND {
+        try_window(*step, *lent, *answer, &in_a_window, listed);
+    }
+    let mut full = vec![0; MEMORY];
+    for n in 1..=23 {
+        full[station(n)..station(n) + 8].copy_from_slice(&[[1, 3, 5][n % 3], 16, 0, 0, 0, 0, 1, 0]);
+        (0..16).for_each(|a| full[station(n) + 16 + a] = (n * 16 + a) as u32);
+    }
+    for (step, lent, [first, last]) in FULL_BY_HAND {
+        let listed: Vec<u32> = (*first..=*last).collect();
+        try_window(*step, *lent, [7, last - first + 1, 0, 0], &full, &listed);
+    }
+    // F0 at the empty station 20, a long transfer of the trigger processor, a crossed window, a crate line for 20, a run line and a list of no steps
     for (sets, fit) in FIT_BY_HAND.iter().map(|sets| (sets, true)).chain(UNFIT_BY_HAND.iter().map(|sets| (sets, false))) {
         let mut memory = memory_of(WIDE_IN_5);
         sets.iter().for_each(|(n, place, value)| memory[station(*n) + place] = *value);
@@ -1457,6 +1619,7 @@ fn try_all_by_hand() {
         let lam = if fit { [4, 16 + 128, 2, 5] } else { answer };
         try_step([1, 20, 0, 0, 0, 0], answer, [&memory, &memory], [&[], &[]]);
         try_step([17, 20, 0, 0, 20, 33], if fit { [0, 13, 0, 0] } else { answer }, [&memory, &memory], [&[], &[]]);
+        try_step([12, 20, 20, 1, 0, 0], if fit { [0, 14, 0, 0] } else { answer }, [&memory, &memory], [&[], &[]]);
         try_line(19, "n=20 kind=1 r=1 wide=1", number, [&memory, &placed]);
         try_by_hand(Call::RunLine(lent_by_hand(b"op=lam")), number, lam, [&memory, &memory], [&[], &[]]);
         try_by_hand(Call::List(0, lent_by_hand(&[])), number, [0; ANSWER], [&memory, &memory], [&[], &[]]);
@@ -1467,7 +1630,10 @@ fn try_all_by_hand() {
         "  {} crate lines and {} refused, {} steps beside a covered station, {} memories fit and {} unfit",
         LINES_BY_HAND.len(), REFUSED_BY_HAND.len(), WIDE_STEPS_BY_HAND.len(), FIT_BY_HAND.len(), UNFIT_BY_HAND.len()
     );
-    println!("  {} steps with the controller's N, {} about the trigger processor's entry", SENT_BY_HAND.len(), SHORT_BY_HAND.len());
+    println!(
+        "  {} steps with the controller's N, {} about the trigger processor's entry, {} about windows",
+        SENT_BY_HAND.len(), SHORT_BY_HAND.len(), WINDOWS_BY_HAND.len() + FULL_BY_HAND.len()
+    );
 }
 
 // ---- what is printed of a difference ----

@@ -60,6 +60,21 @@ def put(rng, modules, limit):
     return "op=put n=%d a=%d to=%d limit=%d w=%d" % (n, a, rng.choice([n, rng.randint(n, 23)]), limit, word(rng))
 
 
+def window(rng, v):
+    """The bounds of a window: v inside, at an edge or just outside; at times crossed by one, at times by any number."""
+    other = word(rng)
+    low, high = min(v, other), max(v, other)
+    return rng.choice([(v, v), (v, v), (0, v), (v, 16777215), (low, high), (low, high), (0, 16777215), (low, max(v - 1, 0)), (v + 1, high), (v + 1, v), (v, other)])
+
+
+def within(rng, modules):
+    """A window, most often from a station whose registers are listed."""
+    listed = [each for each in modules if each[1] in (1, 3, 5)]
+    n, _ = station(rng, listed if rng.random() < 0.7 else modules)
+    v = 0 if rng.random() < 0.3 else word(rng)
+    return "op=within n=%d to=%d lo=%d hi=%d" % ((n, rng.choice([n, rng.randint(n, 23)])) + window(rng, v))
+
+
 def function(rng):
     return rng.choice(FUNCTIONS) if rng.random() < 0.9 else rng.randint(0, 31)
 
@@ -94,21 +109,23 @@ def step(rng, modules, longest, controller):
     """A run line in form; a transfer asks for at most `longest` words or cycles; `controller` of the commands, 0 to 1, have the controller's N."""
     n, r = station(rng, modules)
     pick = rng.random()
-    if pick < 0.44:
+    if pick < 0.42:
         if rng.random() < controller:
             return controller_command(rng, modules)
         f = function(rng)
         return "op=naf n=%d a=%d f=%d w=%d" % (n, subaddress(rng, r, f), f, word(rng))
-    if pick < 0.73:
+    if pick < 0.69:
         return "op=front n=%d a=%d v=%d" % (n, subaddress(rng, r), word(rng))
-    if pick < 0.74:
+    if pick < 0.7:
         return "op=z"
-    if pick < 0.76:
+    if pick < 0.72:
         return "op=c"
-    if pick < 0.81:
+    if pick < 0.77:
         return "op=i v=%d" % rng.choice([0, 0, 0, 1])
-    if pick < 0.86:
+    if pick < 0.82:
         return "op=lam"
+    if pick < 0.86:
+        return within(rng, modules)
     f = rng.choice([0, 2, 2, 3])
     a = subaddress(rng, r) if rng.random() < 0.5 else 0
     limit = rng.choice([1, 2, 3, 16, 17, rng.randint(1, longest)])
@@ -131,7 +148,7 @@ def edge_fields(rng, line):
     for place in range(rng.choice([0, rng.randrange(len(parts))]), len(parts)):
         name, number = parts[place].split("=")
         if number.isdigit() and rng.random() < 0.4:
-            parts[place] = "%s=%d" % (name, rng.choice(WORD_EDGES if name == "w" and rng.random() < 0.5 else EDGES))
+            parts[place] = "%s=%d" % (name, rng.choice(WORD_EDGES if name in ("w", "lo", "hi") and rng.random() < 0.5 else EDGES))
     return " ".join(parts)
 
 
@@ -176,7 +193,7 @@ def spoiled(rng, line):
         return b"x" * rng.choice([79, 80, 81, 82, 83, 160, 162, 255, 256, 1000, 4096, 8192, 70000]) + line
     if shape == 16:
         return bytes(rng.choice([b for b in range(256) if b != 10]) for _ in range(rng.randint(1, 90)))
-    return b"op=" + rng.choice([b"put n=1 a=0 f=16 to=2 limit=1 w=0", b"put n=1 a=0 to=2 w=0 limit=1", b"put n=1 a=0 limit=1 to=2 w=0", b"put n=1 a=0 to=2 limit=1", b"within n=1 to=2 lo=0 hi=1", b"nop", b"", b"na", b"nafn=1", b"Z", b"lam "])
+    return b"op=" + rng.choice([b"put n=1 a=0 f=16 to=2 limit=1 w=0", b"put n=1 a=0 to=2 w=0 limit=1", b"put n=1 a=0 limit=1 to=2 w=0", b"put n=1 a=0 to=2 limit=1", b"within n=1 to=2 lo=0", b"within n=1 lo=0 hi=1", b"within n=1 to=2 hi=1 lo=0", b"within n=1 a=0 to=2 lo=0 hi=1", b"nop", b"", b"na", b"nafn=1", b"Z", b"lam "])
 
 
 def write_folder(path, crate, run):
@@ -191,7 +208,7 @@ def write_folder(path, crate, run):
 
 
 def mixed(path):
-    """99,999 lines of all ten forms, one command in fifty with the controller's N, one line in twenty with a field past its bound, one in fifty garbled."""
+    """99,999 lines of all eleven forms, one command in fifty with the controller's N, one line in twenty with a field past its bound, one in fifty garbled."""
     rng = random.Random("mixed")
     modules = modules_in(rng, [n for n in range(1, 24) if n not in (6, 13)], 0.1)
     lines = []
@@ -266,6 +283,8 @@ def badly_wide(rng, modules):
 def random_crate(rng):
     stations = [n for n in range(1, 24) if rng.random() < rng.choice([0.1, 0.3, 1.0])]
     modules = modules_in(rng, stations, rng.choice([0.0, 0.2, 0.6]))
+    if rng.random() < 0.05:  # as many registers as a window can list
+        modules = [(n, rng.choice([1, 3, 5]), 16, 1) for n in range(1, 24)]
     text = crate_text(modules)
     pick = rng.random()
     if pick < 0.7:
@@ -308,6 +327,18 @@ def controls(rng, modules):
     return [line.encode() for line in lines]
 
 
+def windows(rng, modules):
+    """A register cleared and a word brought there, by an event or F16, and after that windows about this word."""
+    (n, r), v = station(rng, modules), word(rng)
+    a = subaddress(rng, r)
+    lines = ["op=i v=%d" % rng.choice([0, 0, 0, 1]), "op=naf n=%d a=%d f=9 w=0" % (n, a)]
+    lines.append(rng.choice(["op=front n=%d a=%d v=%d", "op=naf n=%d a=%d f=16 w=%d"]) % (n, a, v))
+    for _ in range(rng.randint(1, 5)):
+        stations = rng.choice([(n, n), (1, 23), (rng.randint(1, n), rng.randint(n, 23))])
+        lines.append("op=within n=%d to=%d lo=%d hi=%d" % (stations + window(rng, v)))
+    return [line.encode() for line in lines]
+
+
 def elsewhere(rng, line):
     """The line with the N of no station."""
     return re.sub(" n=[0-9]+", lambda _: " n=%d" % rng.choice([0, 32] + list(range(24, 32)) * 2), line)
@@ -330,6 +361,8 @@ def random_folder(path, seed):
             lines.append((edge_fields(rng, line) if pick < 2 * bad else line).encode())
         if rng.random() < 0.02:
             lines += burst(rng, modules)
+        if rng.random() < 0.03:
+            lines += windows(rng, modules)
         if rng.random() < controller / 5:
             lines += controls(rng, modules)
     run = b"\n".join(lines) + (b"\n" if lines and rng.random() < 0.9 else b"")

@@ -1,4 +1,4 @@
-// The CAMAC rehearsal in plain C, written from document 01 and requests L1, L3, L4, L6 and L7 of document 02, read as docs/RULES.md has them.
+// The CAMAC rehearsal in plain C, written from document 01 and requests L1, L3, L4, L6, L7 and L9 of document 02, read as docs/RULES.md has them.
 // It shares no code with the proved program, so that the two can be compared, in what they print and in how fast they are.
 // Build: gcc -O3 -DSTDIO plain.c has the C library read lines and print numbers, as a C program mostly does; gcc -O3 plain.c does both by hand, to be quick.
 // It reads crate.txt and run.txt in the current folder, or the two files named, and prints the sheet.
@@ -26,7 +26,8 @@ enum {
     BAD_LENGTH,
     BAD_MODULE = 10,
     OUT_OF_ORDER,
-    COVERED_STATION
+    COVERED_STATION,
+    CROSSED_WINDOW = 14
 };
 
 struct station {
@@ -413,13 +414,18 @@ static void put_end(uint32_t end, uint32_t words, uint32_t cycles)
     PUT_FIELD(" cycles=", cycles);
 }
 
-static void put_transfer(uint32_t end, const uint32_t *words, uint32_t stored, uint32_t cycles)
+static void put_words(const uint32_t *words, uint32_t count)
 {
-    put_end(end, stored, cycles);
-    for (uint32_t i = 0; i < stored; i++) {
+    for (uint32_t i = 0; i < count; i++) {
         PUT_FIELD("\nword=", words[i]);
         make_room();
     }
+}
+
+static void put_transfer(uint32_t end, const uint32_t *words, uint32_t stored, uint32_t cycles)
+{
+    put_end(end, stored, cycles);
+    put_words(words, stored);
 }
 
 // From N, A of a scan or a put to the next: A + 1 after Q = 1, and A0 of N + 1 after Q = 0 or A15.
@@ -519,6 +525,31 @@ static uint32_t do_put(uint32_t n, uint32_t a, uint32_t to, uint32_t limit, uint
     return 0;
 }
 
+// Lists the registers of scalers, input registers and counters whose value lies from lo to hi, each as its number: station times 16 plus subaddress.
+static uint32_t do_within(uint32_t n, uint32_t to, uint32_t lo, uint32_t hi)
+{
+    uint32_t numbers[STATIONS * 16], listed = 0;
+    if (n < 1 || n > STATIONS)
+        return NO_SUCH_STATION;
+    if (to < n || to > STATIONS)
+        return CROSSED_RANGE;
+    if (lo > WORD_MAX || hi > WORD_MAX)
+        return OVERWIDE_WORD;
+    if (lo > hi)
+        return CROSSED_WINDOW;
+    for (; n <= to; n++) {
+        const struct station *m = &crate[n];
+        if (m->kind == SCALER || m->kind == INPUT || m->kind == COUNTER)
+            for (uint32_t a = 0; a < m->r; a++) {
+                numbers[listed] = n * 16 + a;
+                listed += lo <= m->word[a] && m->word[a] <= hi;
+            }
+    }
+    PUT_FIELD(" words=", listed);
+    put_words(numbers, listed);
+    return 0;
+}
+
 // ---- lines: every line read stands before an LF, which no key or number holds ----
 
 // The place after a key and its number, or NULL.
@@ -544,7 +575,7 @@ static inline const char *field(const char *p, const char *key, size_t length, u
 // Reads and does the step of a run line: 0, or a refusal number. The longest line in form has 72 bytes, so that none over 80 is.
 static uint32_t run_line(const char *p)
 {
-    uint32_t n, a, f, w, to, limit, tries;
+    uint32_t n, a, f, w, to, limit, tries, lo, hi;
 
     if (!WORD("op="))
         return GARBLED;
@@ -579,6 +610,10 @@ static uint32_t run_line(const char *p)
     case 'p':
         if (FIELD("put n=", n) && FIELD(" a=", a) && FIELD(" to=", to) && FIELD(" limit=", limit) && FIELD(" w=", w) && END())
             return do_put(n, a, to, limit, w);
+        return GARBLED;
+    case 'w':
+        if (FIELD("within n=", n) && FIELD(" to=", to) && FIELD(" lo=", lo) && FIELD(" hi=", hi) && END())
+            return do_within(n, to, lo, hi);
         return GARBLED;
     default:
         return GARBLED;

@@ -1,4 +1,4 @@
-// The crate, its steps and its lines in plain Rust, written from document 01 and requests L1, L3, L4 and L6 to L8 of document 02, read as docs/RULES.md has them.
+// The crate, its steps and its lines in plain Rust, written from document 01 and requests L1, L3, L4 and L6 to L9 of document 02, read as docs/RULES.md has them.
 // It shares no code with the proved library, so that library.rs can compare the two call by call.
 
 use std::collections::VecDeque;
@@ -22,6 +22,7 @@ const BAD_MODULE: u32 = 10;
 const OUT_OF_ORDER: u32 = 11;
 const COVERED_STATION: u32 = 12;
 const LONG_TRANSFER: u32 = 13;
+const CROSSED_WINDOW: u32 = 14;
 
 // ---- modules ----
 
@@ -461,6 +462,25 @@ impl Crate {
             }
         }
     }
+
+    // The registers from station n to `to` whose unsigned value lies from lo to hi, both included, each as its number. Output registers and buffer memories
+    // have none that is listed.
+    fn within(&self, n: u32, to: u32, lo: u32, hi: u32) -> Vec<u32> {
+        let mut numbers = Vec::new();
+        for station in n..=to {
+            let module = &self.stations[station as usize];
+            let registers = match module.kind {
+                Kind::Scaler | Kind::Input | Kind::Counter => &module.registers[..module.r as usize],
+                Kind::Empty | Kind::Output | Kind::Buffer => &[],
+            };
+            for (a, value) in registers.iter().enumerate() {
+                if (lo..=hi).contains(value) {
+                    numbers.push(station * 16 + a as u32);
+                }
+            }
+        }
+        numbers
+    }
 }
 
 // ---- judging ----
@@ -507,8 +527,8 @@ fn judge_stored(entry: Entry, limit: u32) -> Result<(), u32> {
     }
 }
 
-fn judge_lent(lent: usize, limit: u32) -> Result<(), u32> {
-    judge(lent < limit as usize, SHORT_BUFFER)
+fn judge_lent(lent: usize, wanted: u32) -> Result<(), u32> {
+    judge(lent < wanted as usize, SHORT_BUFFER)
 }
 
 // The first three fields of every transfer.
@@ -549,6 +569,7 @@ pub enum Step {
     Stop(Entry, [u32; 4]),
     Put([u32; 5]),
     PutLent([u32; 4]), // of the buffer's words; it has no line
+    Within([u32; 4]),
 }
 
 pub enum Answer {
@@ -558,9 +579,10 @@ pub enum Answer {
     Looked(u32, u32, u32),
     Transferred(Transfer),
     Wrote(Transfer, u32), // a put, and how many words were used up
+    Listed(u32), // how many registers are inside the window; their numbers are in the list handed in
 }
 
-// One step on a fit crate, lent the words of `buffer`. `words` is empty before it and takes those that a transfer stores. A refused step changes nothing.
+// One step on a fit crate, lent the words of `buffer`. `words` is empty before it and takes those that a transfer stores or a window lists. A refused step changes nothing.
 pub fn run_step(memory: &mut Crate, step: Step, buffer: &[u32], words: &mut Vec<u32>) -> Result<Answer, u32> {
     let lent = buffer.len();
     match step {
@@ -631,6 +653,16 @@ pub fn run_step(memory: &mut Crate, step: Step, buffer: &[u32], words: &mut Vec<
             }
             let (transfer, used) = memory.put(n, a, to, offered);
             Ok(Answer::Wrote(transfer, used))
+        }
+        Step::Within([n, to, lo, hi]) => {
+            judge_station(n)?;
+            judge_range(n, to)?;
+            judge_word(lo)?;
+            judge_word(hi)?;
+            judge(lo > hi, CROSSED_WINDOW)?;
+            judge_lent(lent, 16 * (to - n + 1))?; // whatever the list's length
+            *words = memory.within(n, to, lo, hi);
+            Ok(Answer::Listed(words.len() as u32))
         }
     }
 }
@@ -714,6 +746,9 @@ pub fn run_line(line: &[u8]) -> Option<Step> {
     }
     if let Some(fields) = fields(line, "op=put", [" n=", " a=", " to=", " limit=", " w="]) {
         return Some(Step::Put(fields));
+    }
+    if let Some(fields) = fields(line, "op=within", [" n=", " to=", " lo=", " hi="]) {
+        return Some(Step::Within(fields));
     }
     None
 }

@@ -7,7 +7,7 @@ COUNT    random pairs (2000)
 SEED     of the first of them (1)
 Ends with 0 when every output is the same, 1 when one differs, 2 when it cannot start.
 
-Written from document 01 and requests L1 and L7 of document 02 alone. A line of a file is a step. The verdict comes from trying the rearrangements one by one; the lines before it from
+Written from document 01 and requests L1, L7 and L9 of document 02 alone. A line of a file is a step. The verdict comes from trying the rearrangements one by one; the lines before it from
 the steps that touch each station, in order, and from how often each refusal number comes. Neighbouring stations that part alike are one line.
 Where all lines of a file are refused there is no verdict. What is said on standard error is compared too.
 """
@@ -36,6 +36,7 @@ FORMS = {
     "repeat": ["n", "a", "f", "limit", "tries"],
     "stop": ["n", "a", "f", "limit"],
     "put": ["n", "a", "to", "limit", "w"],
+    "within": ["n", "to", "lo", "hi"],
 }
 NUMBER = "(0|[1-9][0-9]{0,7})"
 PATTERNS = {
@@ -72,6 +73,8 @@ def field_refusal(op, values, name):
     if name in ("w", "v"):
         loads = op == "naf" and (values["n"], values["a"], values["f"]) == (30, 8, 16)
         return 0 if value <= (1 if op == "i" else 8388607 if loads else 16777215) else 5
+    if name in ("lo", "hi"):
+        return 5 if value > 16777215 else 14 if name == "hi" and values["lo"] > value else 0
     if name == "to":
         return 0 if values["n"] <= value <= LAST_STATION else 6
     return 0 if 1 <= value <= (512 if name == "limit" else 4096) else 7
@@ -89,7 +92,7 @@ def step_of(line):
             number = field_refusal(op, values, name)
             if number:
                 return refused_with(number)
-        if op in ("scan", "put"):
+        if op in ("scan", "put", "within"):
             touches = frozenset(range(values["n"], values["to"] + 1))
         elif values.get("n", LAST_STATION + 1) <= LAST_STATION:
             touches = frozenset([values["n"]])
@@ -165,7 +168,7 @@ def station_lines(numbers):
 
 def refusal_lines(first, second):
     lines = []
-    for number in range(1, 13):
+    for number in range(1, 15):
         due = [place for place, step in enumerate(first) if step.refused == number]
         there = [place for place, step in enumerate(second) if step.refused == number]
         if len(due) > len(there):
@@ -237,8 +240,9 @@ def controller_line(rng):
 def good_line(rng, stations):
     if rng.random() < 0.12:
         return controller_line(rng)
-    op = rng.choice(["naf"] * 5 + ["front"] * 5 + ["scan"] * 4 + ["put"] * 3 + ["repeat", "stop"] * 2 + ["z", "c", "i", "lam"])
+    op = rng.choice(["naf"] * 5 + ["front"] * 5 + ["scan"] * 4 + ["put"] * 3 + ["within"] * 4 + ["repeat", "stop"] * 2 + ["z", "c", "i", "lam"])
     n = rng.choice(stations)
+    lo = rng.choice([0, 0, 0, 1, 8388607])
     values = {
         "n": n,
         "a": rng.choice([0, 0, 1, 15]),
@@ -248,6 +252,8 @@ def good_line(rng, stations):
         "to": rng.choice([n, min(n + 1, LAST_STATION), rng.randint(n, LAST_STATION)]),
         "limit": rng.choice([1, 2, 512]),
         "tries": rng.choice([1, 4096]),
+        "lo": lo,
+        "hi": rng.choice([word for word in WORDS if word >= lo]),
     }
     return " ".join(["op=" + op] + ["%s=%d" % (name, values[name]) for name in FORMS[op]])
 
@@ -266,8 +272,8 @@ def edged(rng, line):
 
 
 def rewritten(rng, line):
-    """The line with another write word, at times overwide, where it ends in one."""
-    return re.sub(" w=[0-9]+$", lambda _: " w=%d" % rng.choice(WORDS + WIDE_WORDS), line)
+    """The line with another write word or upper bound, at times overwide, where it ends in one; a window may then be crossed."""
+    return re.sub(" (w|hi)=[0-9]+$", lambda found: " %s=%d" % (found[1], rng.choice(WORDS + WIDE_WORDS)), line)
 
 
 def garbled(rng, line):
@@ -289,6 +295,8 @@ def garbled(rng, line):
             "op=put n=1 a=0 f=16 to=1 limit=1 w=1",
             "op=put n=1 a=0 to=1 w=1 limit=1",
             "op=put n=1 a=0 to=1 limit=1",
+            "op=within n=1 to=1 lo=0",
+            "op=within n=1 to=1 hi=1 lo=0",
         ]
     )
 

@@ -1,6 +1,6 @@
 /* pagontxu.h: a rehearsal of a CAMAC crate, for programs in C, Fortran or Python.
  *
- * The rules are those of document 01, "The CAMAC rehearsal crate", and of document 02, requests L1 to L8; docs/RULES.md has them, numbered. Each function is
+ * The rules are those of document 01, "The CAMAC rehearsal crate", and of document 02, requests L1 to L9; docs/RULES.md has them, numbered. Each function is
  * proved to return and to leave what its definition in crates/capi/specs/Calls.antt says, for any contents and any lengths of the arrays that it is lent.
  *
  * Build the archive with `./build.sh library` and link target/staticlib/libcapi.a (x86-64 Linux). The library keeps no state, allocates nothing
@@ -44,6 +44,7 @@
  *   9 stop    n a f limit         Stop
  *  10 put     n a to limit w      a put of one word: w, `limit` times; it needs no buffer
  *  11         n a to limit        a put of lent words: the first `limit` words of the buffer; a run file has no line for it
+ *  12 within  n to lo hi          a listing of the registers inside a window
  *  17 to 19   fields of 7 to 9    scan, Repeat and Stop at the trigger processor's entry; a run file has no line for them
  *   any other word 0 is garbled: refusal 1.
  *
@@ -75,6 +76,11 @@
  * step 17, 18 or 19 is the step 7, 8 or 9 with the same fields: the same refusals, answer, memory and buffer. A processor's step and the same general one may
  * stand in one list.
  *
+ * A LISTING finds each register below r of scalers, input registers and up-down counters, from station n to `to`, whose value lies from lo to hi, both included;
+ * the value is unsigned, so a counter at -1 is 16777215. It is listed by its number, 16 times its station plus its subaddress, in the first words of the buffer,
+ * ascending. The buffer has at least 16 words a station, 16 * (to - n + 1), however short the list is. The memory stays as it was. Refusals in this order:
+ * 9, 2, 6, 5 for lo, 5 for hi, 14, 8.
+ *
  * AN ANSWER: four words.
  *   0 refused               the refusal number, 0, 0
  *   1 a command             X, Q, R, whatever its n, also where it is not accepted
@@ -90,6 +96,7 @@
  *                           end 2  of a scan: past `to`; of a Repeat: `tries` cycles are made; of a Stop: Q = 0, that cycle counted
  *                           end 3  of a Repeat or a Stop: X = 0, that cycle counted; where end 2 applies too, it is 3
  *   6 a put                 end, words used up, cycles
+ *   7 a listing             how many registers it lists, 0, 0; their numbers are in the buffer, which keeps what it held past them
  *
  * A REFUSAL changes nothing in the memory or the buffers. Each function returns 0, or the number of its refusal:
  */
@@ -109,16 +116,18 @@ enum pagontxu_refusal {
     PAGONTXU_NO_SUCH_STATION = 2,     /* N outside 1 to 23; in a command 24, 26, 28 and 30 are good too */
     PAGONTXU_NO_SUCH_SUBADDRESS = 3,  /* A above 15 */
     PAGONTXU_NO_SUCH_FUNCTION = 4,    /* F above 31; in a transfer, not 0, 2, 3 */
-    PAGONTXU_OVERWIDE_WORD = 5,       /* w or v above 16777215; for I, v above 1; w of a command to n = 30, a = 8, f = 16 above 8388607;
+    PAGONTXU_OVERWIDE_WORD = 5,       /* w, v, lo or hi above 16777215; for I, v above 1; w of a command to n = 30, a = 8, f = 16 above 8388607;
                                          in a put of lent words, after 8, one of these above 16777215 */
     PAGONTXU_CROSSED_RANGE = 6,       /* `to` below N or above 23 */
     PAGONTXU_BAD_LENGTH = 7,          /* limit outside 1 to 512, tries outside 1 to 4096 */
-    PAGONTXU_SHORT_BUFFER = 8,        /* fewer than limit words of buffer (a put of one word needs none); or a step, answer, or list array with too few words */
+    PAGONTXU_SHORT_BUFFER = 8,        /* fewer than limit words of buffer (a put of one word needs none), in a listing fewer than 16 a station; or a step,
+                                         answer, or list array with too few words */
     PAGONTXU_UNFIT_CRATE = 9,         /* the memory is not fit; comes before all else */
     PAGONTXU_BAD_MODULE = 10,         /* a crate line's kind outside 1 to 5, r not of its kind, wide not 1 or 2, or wide 2 in station 23 */
     PAGONTXU_OUT_OF_ORDER = 11,       /* a crate line's station not above that of the line before */
     PAGONTXU_COVERED_STATION = 12,    /* a crate line's station is covered: its word 7 is 1 */
-    PAGONTXU_LONG_TRANSFER = 13       /* limit 33 to 512 at the trigger processor's entry */
+    PAGONTXU_LONG_TRANSFER = 13,      /* limit 33 to 512 at the trigger processor's entry */
+    PAGONTXU_CROSSED_WINDOW = 14      /* lo above hi */
 };
 
 enum pagontxu_answer {
@@ -128,7 +137,8 @@ enum pagontxu_answer {
     PAGONTXU_DONE = 3,
     PAGONTXU_LOOKED = 4,
     PAGONTXU_TRANSFERRED = 5,
-    PAGONTXU_WROTE = 6
+    PAGONTXU_WROTE = 6,
+    PAGONTXU_LISTED = 7
 };
 
 enum {
@@ -146,7 +156,7 @@ enum {
 uint32_t pagontxu_crate_line(uint32_t *memory, size_t memory_len, uint32_t previous, const uint8_t *line, size_t line_len);
 
 /* One line of a run file, as `op=naf n=3 a=0 f=2 w=0`, without its LF. The answer goes into the first four words of `answer`, a refusal too; words past
- * them keep their contents. A scan, Repeat or Stop stores its words in `buffer`; other steps leave it as it is, and its length may be 0.
+ * them keep their contents. A scan, Repeat, Stop or listing stores its words in `buffer`; other steps leave it as it is, and its length may be 0.
  * Refusals in this order: 9; 8 where `answer` has fewer than four words, which then keep their contents; then the line's own, 8 for a short buffer last. */
 uint32_t pagontxu_run_line(uint32_t *memory, size_t memory_len, const uint8_t *line, size_t line_len, uint32_t *answer, size_t answer_len,
                            uint32_t *buffer, size_t buffer_len);

@@ -147,19 +147,27 @@ garbled(
 )
 
 # ---- 6. spaces: before, after, doubled, missing, beside the sign of equality; a tab for a space
-for line in ["op=naf n=3 a=0 f=2 w=0", "op=front n=3 a=0 v=5", "op=z", "op=c", "op=i v=0", "op=lam", "op=scan n=3 a=0 f=0 to=5 limit=8",
-             "op=repeat n=7 a=1 f=2 limit=3 tries=4", "op=stop n=8 a=9 f=3 limit=10", "op=put n=2 a=0 to=5 limit=10 w=7", "n=3 kind=1 r=2 wide=1"]:
+def spaces(line):
     garbled(" " + line, line + " ", "  " + line, line + "  ", "\t" + line, line + "\t")
     garbled(line.replace("=", " =", 1), line.replace("=", "= ", 1))
     if " " in line:
         garbled(line.replace(" ", "  ", 1), line.replace(" ", "", 1), line.replace(" ", "\t", 1), line.replace(" ", "\v", 1))
         garbled("  ".join(line.rsplit(" ", 1)), "".join(line.rsplit(" ", 1)), "\t".join(line.rsplit(" ", 1)))
+
+
+for line in ["op=naf n=3 a=0 f=2 w=0", "op=front n=3 a=0 v=5", "op=z", "op=c", "op=i v=0", "op=lam", "op=scan n=3 a=0 f=0 to=5 limit=8",
+             "op=repeat n=7 a=1 f=2 limit=3 tries=4", "op=stop n=8 a=9 f=3 limit=10", "op=put n=2 a=0 to=5 limit=10 w=7", "n=3 kind=1 r=2 wide=1"]:
+    spaces(line)
 garbled(" ", "  ", "\t", "=", "n", "o", "op", "n=3 kind=1r=2 wide=1", "n=3 kind=1  r=2 wide=1", "n=3 kind=1 r=2 wide =1", "n=3 kind=1 r=2 wide= 1", "n=3 kind=1 r=2 wi de=1")
 
 # ---- 7. capitals
+def capitals(line):
+    garbled(line.upper(), line[0].upper() + line[1:])
+
+
 for line in ["op=naf n=3 a=0 f=2 w=0", "op=front n=3 a=0 v=5", "op=z", "op=c", "op=i v=0", "op=lam", "op=scan n=3 a=0 f=0 to=5 limit=8",
              "op=repeat n=7 a=1 f=2 limit=3 tries=4", "op=stop n=8 a=9 f=3 limit=10", "op=put n=2 a=0 to=5 limit=10 w=7", "n=3 kind=1 r=2 wide=1"]:
-    garbled(line.upper(), line[0].upper() + line[1:])
+    capitals(line)
 garbled("op=Z", "op=C", "op=I v=0", "op=i V=0", "op=Lam", "op=LAM", "op=naf N=3 a=0 f=2 w=0", "op=naf n=3 a=0 f=2 W=0", "op=NAF n=3 a=0 f=2 w=0",
         "op=scan n=3 a=0 f=0 to=5 Limit=8", "N=3 kind=1 r=2 wide=1", "n=3 Kind=1 r=2 wide=1", "n=3 kind=1 R=2 wide=1", "n=3 kind=1 r=2 Wide=1",
         "n=3 kind=1 r=2 WIDE=1")
@@ -172,9 +180,13 @@ garbled("op=", "op=x", "op=zz", "op=cc", "op=zc", "op=la", "op=lamp", "op=lamm",
         "p=z", "op=z;", "op=z#", "# op=z", "//", "op=zop=c", "op=z op=c", "op=z,op=c", "op=i v=0 op=z", "oop=z", "0p=z", "op=2", "op=0")
 
 # ---- 9. odd bytes: CR before the LF, NUL, bytes above 127
+def odd_bytes(line):
+    garbled(line + b"\r", line + b"\0", b"\0" + line, b"\xef\xbb\xbf" + line, line + b"\xff", line.replace(b"=", b"\0=", 1))
+
+
 for line in [b"op=naf n=3 a=0 f=2 w=0", b"op=front n=3 a=0 v=5", b"op=z", b"op=c", b"op=i v=0", b"op=lam", b"op=scan n=3 a=0 f=0 to=5 limit=8",
              b"op=repeat n=7 a=1 f=2 limit=3 tries=4", b"op=stop n=8 a=9 f=3 limit=10", b"op=put n=2 a=0 to=5 limit=10 w=7", b"n=3 kind=1 r=2 wide=1"]:
-    garbled(line + b"\r", line + b"\0", b"\0" + line, b"\xef\xbb\xbf" + line, line + b"\xff", line.replace(b"=", b"\0=", 1))
+    odd_bytes(line)
 garbled(b"\r", b"\0", b"\0\0\0\0", b"\x7f", b"\x80", b"\xff", b"op=\0", b"op=\xfa", b"op=i v=\0", b"op=i v=0\0000", b"op=i v=\xb0", b"op=i v=\xff",
         b"op=i v=\x30\x00", b"op=i v=\xef\xbc\x91", b"op=i\xa0v=0", b"op=i\xc2\xa0v=0", b"n=\xb3 kind=1 r=2 wide=1", b"n=3 kind=1 r=\xb2 wide=1",
         b"n=3 kind=1 r=2 wide=\xb1", b"n=3\0kind=1 r=2 wide=1", b"n=3 kind=1 r=2\0wide=1",
@@ -203,8 +215,32 @@ garbled("", "", "op=zop=z")
 module("n=3 kind=1 r=2 wide=1", "Module n=3 kind=1 r=2 wide=1")
 garbled("n=3 kind=1 r=2 wide=1n=3 kind=1 r=2 wide=1")
 
-# ---- 12. the last line, which lacks its LF
 step("op=naf n=23 a=15 f=31 w=16777215", "Command n=23 a=15 f=31 w=16777215")
+
+# ---- 12. registers inside a window: of this form what groups 1 to 10 have of the others
+listing = "op=within n=3 to=7 lo=2 hi=1"
+step(listing, "Within n=3 to=7 lo=2 hi=1")
+step("op=within n=1 to=23 lo=8388608 hi=16777215", "Within n=1 to=23 lo=8388608 hi=16777215")
+step("op=within n=50 to=40 lo=30 hi=20", "Within n=50 to=40 lo=30 hi=20")
+step("op=within n=12345678 to=1234567 lo=123456 hi=12345", "Within n=12345678 to=1234567 lo=123456 hi=12345")
+numbers("op=within n={} to={} lo={} hi={}", "Within n={} to={} lo={} hi={}", 4, step)
+garbled(
+    "op=within", "op=within ", "op=within n=3", "op=within n=3 to=7", "op=within n=3 to=7 lo=2", "op=within n=3 to=7 lo=2 ", "op=within n=3 to=7 lo=2 hi=",
+    "op=within n=3 to=7 hi=1", "op=within n=3 lo=2 hi=1", "op=within to=7 lo=2 hi=1", "op=within n=3 to=7 hi=1 lo=2", "op=within n=3 lo=0 hi=1 to=7",
+    "op=within to=7 n=3 lo=2 hi=1", "op=within lo=2 hi=1 n=3 to=7", "op=within n=3 a=0 to=7 lo=2 hi=1", "op=within n=3 to=7 lo=2 hi=1 hi=1",
+    "op=within n=3 to=7 lo=2 hi=1 limit=8", "op=within n=3 to=7 lo=2 hi", "op=within n=3 to=7 low=2 high=1", "op=within n=3 to=7 l=2 h=1",
+    "op=withi n=3 to=7 lo=2 hi=1", "op=withins n=3 to=7 lo=2 hi=1", "op=withinn=3 to=7 lo=2 hi=1", "op=with n=3 to=7 lo=2 hi=1", "op=inside n=3 to=7 lo=2 hi=1",
+    "op=w", "op=w n=3 to=7 lo=2 hi=1", "op=Within n=3 to=7 lo=2 hi=1", "op=within n=3 to=7 lo=2 Hi=1", "op=within n=-1 to=7 lo=2 hi=1",
+    "op=within n=3 to=7 lo=-1 hi=1", "op=scan n=3 to=7 lo=2 hi=1", "op=within n=3 a=0 f=0 to=7 limit=8",
+)
+spaces(listing)
+capitals(listing)
+odd_bytes(listing.encode())
+step("op=within n=99999999 to=99999999 lo=99999999 hi=99999999", "Within n=99999999 to=99999999 lo=99999999 hi=99999999")
+garbled("op=within n=99999999 to=99999999 lo=99999999 hi=999999999", listing.ljust(80, "5"), listing.ljust(81, "5"), listing.ljust(81))
+
+# ---- 13. the last line, which lacks its LF
+step("op=within n=23 to=23 lo=16777215 hi=16777215", "Within n=23 to=23 lo=16777215 hi=16777215")
 
 here = os.path.dirname(os.path.abspath(__file__))
 assert all(b"\n" not in line for line, _, _ in rows)

@@ -34,6 +34,11 @@ static void print_answer(const uint32_t *answer, const uint32_t *buffer)
         for (uint32_t i = 0; i < answer[2]; i++)
             printf("word=%" PRIu32 "\n", buffer[i]);
         break;
+    case PAGONTXU_LISTED:
+        printf("words=%" PRIu32 "\n", answer[1]);
+        for (uint32_t i = 0; i < answer[1]; i++)
+            printf("word=%" PRIu32 "\n", buffer[i]);
+        break;
     case PAGONTXU_WROTE:
         printf("end=%" PRIu32 " words=%" PRIu32 " cycles=%" PRIu32 "\n", answer[1], answer[2], answer[3]);
         break;
@@ -57,6 +62,7 @@ int main(void)
         {2, 3, 0, 1, 0, 0},        /* front n=3 a=0 v=1: one more, the register goes to 0 and its status bit to 1, so 2 */
         {6, 0, 0, 0, 0, 0},        /* lam */
         {2, 3, 1, 7, 0, 0},        /* front n=3 a=1 v=7 */
+        {12, 3, 4, 1, 100, 0},     /* within n=3 to=4 lo=1 hi=100: the register at n=3 a=1 */
         {7, 3, 0, 2, 3, 8},        /* scan n=3 a=0 f=2 to=3 limit=8 */
         {10, 4, 0, 4, 2, 5},       /* put n=4 a=0 to=4 limit=2 w=5: both output registers hold 5 */
         {1, 4, 1, 18, 8, 0},       /* naf n=4 a=1 f=18 w=8: the second holds 13 */
@@ -65,7 +71,7 @@ int main(void)
         {11, 4, 0, 4, 2, 0},       /* the buffer's two words are put back, from n=4 a=0 to=4 */
         {7, 4, 0, 0, 4, 2},        /* scan n=4 a=0 f=0 to=4 limit=2: they are there again */
     };
-    enum { COUNT = sizeof steps / sizeof steps[0], PUT_BACK = 10 };
+    enum { COUNT = sizeof steps / sizeof steps[0], PUT_BACK = 11 };
     static uint32_t memory[PAGONTXU_MEMORY_WORDS];
     static uint32_t buffer[PAGONTXU_BUFFER_WORDS];
     uint32_t answer[PAGONTXU_ANSWER_WORDS];

@@ -65,6 +65,7 @@ program rehearse_once
   call run("op=front n=3 a=0 v=1")
   call run("op=lam")
   call run("op=front n=3 a=1 v=7")
+  call run("op=within n=3 to=4 lo=1 hi=100")
   call run("op=scan n=3 a=0 f=2 to=3 limit=8")
   call run("op=put n=4 a=0 to=4 limit=2 w=5")
   call run("op=naf n=4 a=1 f=18 w=8")
@@ -87,8 +88,6 @@ contains
 
   ! Prints the answer as the sheet of a rehearsal does, without the step's number.
   subroutine tell
-    integer(c_int32_t) :: i
-
     select case (answer(1))
     case (0)
       print "(a, i0)", "refused=", answer(2)
@@ -102,11 +101,22 @@ contains
       print "(3(a, i0))", "l=", answer(2), " count=", answer(3), " first=", answer(4)
     case (5)
       print "(3(a, i0))", "end=", answer(2), " words=", answer(3), " cycles=", answer(4)
-      do i = 1, answer(3)
-        print "(a, i0)", "word=", buffer(i)
-      end do
+      call tell_words(answer(3))
     case (6)
       print "(3(a, i0))", "end=", answer(2), " words=", answer(3), " cycles=", answer(4)
+    case (7)
+      print "(a, i0)", "words=", answer(2)
+      call tell_words(answer(2))
     end select
+  end subroutine
+
+  ! Prints the first words of the buffer, a line each.
+  subroutine tell_words(count)
+    integer(c_int32_t), intent(in) :: count
+    integer(c_int32_t) :: i
+
+    do i = 1, count
+      print "(a, i0)", "word=", buffer(i)
+    end do
   end subroutine
 end program

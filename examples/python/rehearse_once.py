@@ -39,7 +39,9 @@ class Crate:
         4: ("l", "count", "first"),
         5: ("end", "words", "cycles"),
         6: ("end", "words", "cycles"),
+        7: ("words",),
     }
+    STORED = {5: 2, 7: 1}  # of a transfer and of a listing: which word of the answer counts those in the buffer
 
     def __init__(self, lib, lines):
         self.lib = lib
@@ -66,8 +68,8 @@ class Crate:
         """The answer as the sheet of a rehearsal prints it, without the step's number."""
         names = self.NAMES[self.answer[0]]
         lines = [" ".join(f"{name}={value}" for name, value in zip(names, self.answer[1:]))]
-        if self.answer[0] == 5:
-            lines += [f"word={self.buffer[i]}" for i in range(self.answer[2])]
+        if self.answer[0] in self.STORED:
+            lines += [f"word={word}" for word in self.buffer[: self.answer[self.STORED[self.answer[0]]]]]
         return "\n".join(lines)
 
 
@@ -85,6 +87,7 @@ def main():
         b"op=front n=3 a=0 v=1",
         b"op=lam",
         b"op=front n=3 a=1 v=7",
+        b"op=within n=3 to=4 lo=1 hi=100",
     ):
         print(crate.run_line(line))
     print(crate.step(7, 3, 0, 2, 3, 8))

@@ -16,7 +16,7 @@ use Rattle.step.specs.declared.Verdict.the-variants.{Fine, Refuse}
 use Rattle.runfile.specs.Read.{readLine, readModule}
 use Rattle.controller.specs.Steps.{Order, order, stepOf}
 use Rattle.controller.specs.declared.Answer.{Answer}
-use Rattle.controller.specs.declared.Answer.the-variants.{Replied, Taken, Done, Looked, Transferred, Wrote, Refused}
+use Rattle.controller.specs.declared.Answer.the-variants.{Replied, Taken, Done, Looked, Transferred, Wrote, Listed, Refused}
 use Rattle.controller.proofs.Sentences.{refused-same}
 use Rattle.lists.specs.Words.{readingOf}
 use Rattle.lists.specs.Runs.{ranOf, unrun, isEnough, listOf}
@@ -35,6 +35,7 @@ told-same m o Done e h = absurd (h refl)
 told-same m o (Looked p) e h = absurd (h refl)
 told-same m o (Transferred p) e h = absurd (h refl)
 told-same m o (Wrote p) e h = absurd (h refl)
+told-same m o (Listed count) e h = absurd (h refl)
 
 -- a step or a line, with enough words lent or not
 lent-same : (m : List ℕ) (o : Order) (t : Bool) → (answerNumber (ifLent t m o .out .answer) ≡ 0 → ⊥)

@@ -12,7 +12,7 @@ use Rattle.runfile.specs.Read.{readLine, readModule}
 use Rattle.controller.specs.Answers.{answerWords}
 use Rattle.controller.specs.Steps.{Order, Performed, order, refused, stepOf}
 use Rattle.controller.specs.declared.Answer.{Answer}
-use Rattle.controller.specs.declared.Answer.the-variants.{Replied, Taken, Done, Looked, Transferred, Wrote, Refused}
+use Rattle.controller.specs.declared.Answer.the-variants.{Replied, Taken, Done, Looked, Transferred, Wrote, Listed, Refused}
 use Rattle.lists.specs.Words.{readingOf}
 use Rattle.lists.specs.Runs.{Ran, listOf}
 use Rattle.controller.specs.Placing.{Installed}
@@ -27,6 +27,7 @@ answerNumber Done = 0
 answerNumber (Looked p) = 0
 answerNumber (Transferred p) = 0
 answerNumber (Wrote p) = 0
+answerNumber (Listed count) = 0
 
 -- ---- one step or one run line
 -- so many words are lent

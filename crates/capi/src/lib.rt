@@ -39,6 +39,7 @@ fn answer_number(answer: Answer) -> u32
         Answer::Looked(_) => 0,
         Answer::Transferred(_) => 0,
         Answer::Wrote(_) => 0,
+        Answer::Listed(_) => 0,
     }
 }
 

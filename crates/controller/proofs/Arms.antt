@@ -20,21 +20,22 @@ use Rattle.transfer.specs.Repeat.{repeatOf}
 use Rattle.transfer.specs.Stop.{stopOf}
 use Rattle.transfer.specs.Put.{putOf}
 use Rattle.transfer.specs.declared.Transfer.{Transfer}
-use Rattle.step.specs.Verdict.{stepVerdict, shortVerdict, isFine}
-use Rattle.step.proofs.Fine.{transfer-one-of, command-fine, front-fine, inhibit-fine, scan-fields, repeat-fields, stop-fields, narrow-at, put-fields, put-lent-fields}
+use Rattle.windows.specs.Within.{withinOf, listedIn}
+use Rattle.step.specs.Verdict.{stepVerdict, shortVerdict, isFine, placesOf}
+use Rattle.step.proofs.Fine.{transfer-one-of, command-fine, front-fine, inhibit-fine, scan-fields, repeat-fields, stop-fields, narrow-at, put-fields, put-lent-fields, within-fields}
 use Rattle.step.specs.declared.Refusal.{Refusal}
 use Rattle.step.specs.declared.Reading.{Reading}
 use Rattle.step.specs.declared.Reading.the-variants.{Good, Bad}
 use Rattle.step.specs.declared.Verdict.{Verdict}
 use Rattle.step.specs.declared.Verdict.the-variants.{Fine, Refuse}
 use Rattle.step.specs.declared.Step.{Step}
-use Rattle.step.specs.declared.Step.the-variants.{Command, Front, Z, C, Inhibit, LookAtMe, Scan, Repeat, Stop, Put, PutLent, Processor}
+use Rattle.step.specs.declared.Step.the-variants.{Command, Front, Z, C, Inhibit, LookAtMe, Scan, Repeat, Stop, Put, PutLent, Processor, Within}
 use Rattle.step.specs.declared.Short.{Short}
 use Rattle.step.specs.declared.Short.the-variants.{ShortScan, ShortRepeat, ShortStop}
 use Rattle.step.specs.Entries.{generalOf}
 use Rattle.step.proofs.Entries.{short-fine}
 use Rattle.controller.specs.declared.Answer.{Answer}
-use Rattle.controller.specs.declared.Answer.the-variants.{Replied, Taken, Done, Looked, Transferred, Wrote, Refused}
+use Rattle.controller.specs.declared.Answer.the-variants.{Replied, Taken, Done, Looked, Transferred, Wrote, Listed, Refused}
 use Rattle.controller.specs.Steps.{order, Performed, performed, shortOf, actOf, judgedOf, doneOf}
 use Rattle.controller.proofs.StepLaws.{done-fit}
 
@@ -81,6 +82,11 @@ module _ (s : Step) (b : List ℕ) (good : isFine (stepVerdict s b) ≡ true) wh
 
   pub processor-good : (t : Short) → s ≡ Processor t → isFine (shortVerdict t (length b)) ≡ true
   processor-good t e = rw e at good
+
+  pub within-good : (n to lo hi : ℕ) → s ≡ Within n to lo hi → (1 ≤ n) × (n ≤ to) × (to ≤ 23) × (placesOf n to ≤ length b)
+  within-good n to lo hi e =
+      let h = within-fields n to lo hi (length b) (rw e at good) in
+      (h .0, h .2, h .3, h .6)
 
 -- the same of a transfer at the trigger processor's entry: what is fine there is fine at the general entry, so its call may be made
 module _ (t : Short) (lent : ℕ) (good : isFine (shortVerdict t lent) ≡ true) where
@@ -164,6 +170,11 @@ module _ (s : Step) (m m′ b : List ℕ) where
 -- the Look-at-Me reading changes nothing
 pub lam-acts : (s : Step) (m b : List ℕ) (p : LamReading) → s ≡ LookAtMe → p ≡ lamOf m → actOf m s b ≡ performed m (Looked p) b
 lam-acts s m b p e q = rw (e, q)
+
+-- nor does a listing change the crate
+pub within-acts : (s : Step) (m b b′ : List ℕ) (n to lo hi : ℕ) (count : ℕ) → s ≡ Within n to lo hi → count ≡ length (withinOf m n to lo hi)
+    → b′ ≡ listedIn (withinOf m n to lo hi) b → actOf m s b ≡ performed m (Listed count) b′
+within-acts s m b b′ n to lo hi count e p q = rw (e, p, q)
 
 -- ---- a step that is judged first
 fine-done : (m b : List ℕ) (s : Step) → stepVerdict s b ≡ Fine → doneOf m (order (Good s) b) ≡ actOf m s b

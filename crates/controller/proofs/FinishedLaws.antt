@@ -20,7 +20,7 @@ use Rattle.step.specs.Verdict.{isFine, stepVerdict}
 use Rattle.step.proofs.Fine.{command-fine, scan-fields}
 use Rattle.step.specs.declared.Refusal.the-variants.{UnfitCrate}
 use Rattle.step.specs.declared.Step.{Step}
-use Rattle.step.specs.declared.Step.the-variants.{Command, Front, Z, C, Inhibit, LookAtMe, Scan, Repeat, Stop, Put, PutLent, Processor}
+use Rattle.step.specs.declared.Step.the-variants.{Command, Front, Z, C, Inhibit, LookAtMe, Scan, Repeat, Stop, Put, PutLent, Processor, Within}
 use Rattle.step.specs.declared.Reading.the-variants.{Good}
 use Rattle.step.specs.declared.Verdict.{Verdict}
 use Rattle.step.specs.declared.Verdict.the-variants.{Fine, Refuse}
@@ -28,7 +28,7 @@ use Rattle.controller.specs.Steps.{order, Performed, refused, actOf, jud
 use Rattle.controller.specs.Finished.{Scanned, FinishedScan, RepliesAreWords}
 use Rattle.controller.proofs.Sentences.{isRefused}
 use Rattle.controller.specs.declared.Answer.{Answer}
-use Rattle.controller.specs.declared.Answer.the-variants.{Replied, Taken, Done, Looked, Transferred, Wrote, Refused}
+use Rattle.controller.specs.declared.Answer.the-variants.{Replied, Taken, Done, Looked, Transferred, Wrote, Listed, Refused}
 
 -- ---- a step whose answer is no refusal was done
 pub record Did (m : List ℕ) (s : Step) (b : List ℕ) : Type 0 where
@@ -64,6 +64,7 @@ transferIn (Replied p) = record { end = 0; words = 0; cycles = 0 }
 transferIn (Taken v) = record { end = 0; words = 0; cycles = 0 }
 transferIn Done = record { end = 0; words = 0; cycles = 0 }
 transferIn (Looked p) = record { end = 0; words = 0; cycles = 0 }
+transferIn (Listed count) = record { end = 0; words = 0; cycles = 0 }
 transferIn (Refused q) = record { end = 0; words = 0; cycles = 0 }
 
 -- ---- a scan
@@ -124,6 +125,7 @@ replyIn (Taken v) = record { x = 0; q = 0; r = 0 }
 replyIn Done = record { x = 0; q = 0; r = 0 }
 replyIn (Looked p) = record { x = 0; q = 0; r = 0 }
 replyIn (Wrote p) = record { x = 0; q = 0; r = 0 }
+replyIn (Listed count) = record { x = 0; q = 0; r = 0 }
 replyIn (Refused q) = record { x = 0; q = 0; r = 0 }
 
 -- only a command answers so
@@ -146,6 +148,7 @@ act-words m (Stop n a f limit) b p g v e = absurd (let z : _≡_ {A = ℕ} 0 1 =
 act-words m (Put n a to limit w) b p g v e = absurd (let z : _≡_ {A = ℕ} 0 1 = cc in omega arith)
 act-words m (PutLent n a to limit) b p g v e = absurd (let z : _≡_ {A = ℕ} 0 1 = cc in omega arith)
 act-words m (Processor t) b p g v e = absurd (let z : _≡_ {A = ℕ} 0 1 = cc in omega arith)
+act-words m (Within n to lo hi) b p g v e = absurd (let z : _≡_ {A = ℕ} 0 1 = cc in omega arith)
 
 pub replies-words : RepliesAreWords
 replies-words m s b p e =

@@ -15,7 +15,7 @@ use Rattle.step.proofs.Fine.{front-fine}
 use Rattle.step.specs.declared.Step.the-variants.{Front}
 use Rattle.step.specs.declared.Reading.the-variants.{Good}
 use Rattle.controller.specs.declared.Answer.{Answer}
-use Rattle.controller.specs.declared.Answer.the-variants.{Replied, Taken, Done, Looked, Transferred, Wrote, Refused}
+use Rattle.controller.specs.declared.Answer.the-variants.{Replied, Taken, Done, Looked, Transferred, Wrote, Listed, Refused}
 use Rattle.controller.specs.Steps.{order, Performed, leaves}
 use Rattle.controller.specs.Fronts.{Told, FrontTold}
 use Rattle.controller.proofs.Sentences.{isRefused}
@@ -29,6 +29,7 @@ digitIn Done = 0
 digitIn (Looked p) = 0
 digitIn (Transferred p) = 0
 digitIn (Wrote p) = 0
+digitIn (Listed count) = 0
 digitIn (Refused q) = 0
 
 module _ (m : List ℕ) (n a v : ℕ) (b : List ℕ) (d : Did m (Front n a v) b) where

@@ -13,3 +13,4 @@ pub mod CoveredLaws
 pub mod RegisterLaws
 pub mod ManyLaws
 pub mod ProcessorLaws
+pub mod ListingLaws

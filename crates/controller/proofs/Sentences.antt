@@ -12,7 +12,8 @@ use Rattle.transfer.specs.Cycle.{Ended, bufferAfter, reads}
 use Rattle.transfer.proofs.Ends.{scan-words, repeat-words, stop-words}
 use Rattle.dataway.specs.Crate.{isFitCrate, FitCrate}
 use Rattle.step.specs.Verdict.{verdictOf, stepVerdict, isFine}
-use Rattle.step.proofs.Fine.{scan-fields, repeat-fields, stop-fields}
+use Rattle.step.proofs.Fine.{scan-fields, repeat-fields, stop-fields, within-fields}
+use Rattle.windows.proofs.WithinLaws.{within-long}
 use Rattle.step.proofs.Numbers.{row, row-number}
 use Rattle.controller.specs.Steps.{Order, Performed, refused, shortOf, actOf, judgedOf, readingDone, doneOf, stepOf, leaves, gives}
 use Rattle.controller.specs.Answers.{answerWords}
@@ -20,7 +21,7 @@ use Rattle.controller.proofs.StepLaws.{law, step-done}
 use Rattle.step.specs.declared.Refusal.{Refusal}
 use Rattle.step.specs.declared.Refusal.the-variants.{UnfitCrate}
 use Rattle.step.specs.declared.Step.{Step}
-use Rattle.step.specs.declared.Step.the-variants.{Command, Front, Z, C, Inhibit, LookAtMe, Scan, Repeat, Stop, Put, PutLent, Processor}
+use Rattle.step.specs.declared.Step.the-variants.{Command, Front, Z, C, Inhibit, LookAtMe, Scan, Repeat, Stop, Put, PutLent, Processor, Within}
 use Rattle.step.specs.declared.Short.{Short}
 use Rattle.step.specs.declared.Short.the-variants.{ShortScan, ShortRepeat, ShortStop}
 use Rattle.step.specs.Entries.{generalOf, limitOf}
@@ -30,7 +31,7 @@ use Rattle.step.specs.declared.Reading.the-variants.{Good, Bad}
 use Rattle.step.specs.declared.Verdict.{Verdict}
 use Rattle.step.specs.declared.Verdict.the-variants.{Fine, Refuse}
 use Rattle.controller.specs.declared.Answer.{Answer}
-use Rattle.controller.specs.declared.Answer.the-variants.{Replied, Taken, Done, Looked, Transferred, Wrote, Refused}
+use Rattle.controller.specs.declared.Answer.the-variants.{Replied, Taken, Done, Looked, Transferred, Wrote, Listed, Refused}
 
 -- every step leaves the crate fit
 pub step-fit : (m : List ℕ) (o : Order) → FitCrate m → FitCrate (leaves m o)
@@ -43,6 +44,7 @@ isRefused Done = false
 isRefused (Looked p) = false
 isRefused (Transferred p) = false
 isRefused (Wrote p) = false
+isRefused (Listed count) = false
 isRefused (Refused q) = true
 
 -- a step that is done does not answer a refusal
@@ -59,6 +61,7 @@ act-answers m (Stop n a f limit) b = refl
 act-answers m (Put n a to limit w) b = refl
 act-answers m (PutLent n a to limit) b = refl
 act-answers m (Processor t) b = refl
+act-answers m (Within n to lo hi) b = refl
 
 judged-same : (v : Verdict) (m : List ℕ) (s : Step) (b : List ℕ) → isRefused (judgedOf v m s b .out .answer) ≡ true
     → (judgedOf v m s b .memory ≡ m) × (judgedOf v m s b .out .buffer ≡ b)
@@ -134,6 +137,7 @@ act-long m (Stop n a f limit) b e = general-long m (ShortStop n a f limit) b e
 act-long m (Processor t) b e = general-long m t b (short-fine t b e)
 act-long m (Put n a to limit w) b e = refl
 act-long m (PutLent n a to limit) b e = refl
+act-long m (Within n to lo hi) b e = let h = within-fields n to lo hi (length b) e in within-long m n to lo hi b (h .6)
 
 judged-long : (v : Verdict) (m : List ℕ) (s : Step) (b : List ℕ) → stepVerdict s b ≡ v → length (judgedOf v m s b .out .buffer) ≡ length b
 judged-long Fine m s b e = act-long m s b (ap isFine e)
@@ -160,7 +164,8 @@ answerFrom ws =
     (cond (eqb (getD ws 0 0) 3) Done
     (cond (eqb (getD ws 0 0) 4) (Looked (record { l = getD ws 1 0; count = getD ws 2 0; first = getD ws 3 0 }))
     (cond (eqb (getD ws 0 0) 5) (Transferred (record { end = getD ws 1 0; words = getD ws 2 0; cycles = getD ws 3 0 }))
-    (Wrote (record { end = getD ws 1 0; words = getD ws 2 0; cycles = getD ws 3 0 })))))))
+    (cond (eqb (getD ws 0 0) 6) (Wrote (record { end = getD ws 1 0; words = getD ws 2 0; cycles = getD ws 3 0 }))
+    (Listed (getD ws 1 0))))))))
 
 answer-back : (a : Answer) → answerFrom (answerWords a) ≡ a
 answer-back (Refused q) = ap Refused (row-number q)
@@ -170,6 +175,7 @@ answer-back Done = refl
 answer-back (Looked p) = refl
 answer-back (Transferred p) = refl
 answer-back (Wrote p) = refl
+answer-back (Listed count) = refl
 
 pub words-answer : (a b : Answer) → answerWords a ≡ answerWords b → a ≡ b
 words-answer a b e = sym (answer-back a) ∙ ap answerFrom e ∙ answer-back b

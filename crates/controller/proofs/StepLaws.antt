@@ -24,13 +24,15 @@ use Rattle.transfer.specs.Stop.{stopOf}
 use Rattle.transfer.specs.Put.{putOf}
 use Rattle.transfer.proofs.Locality.{local-scan, local-put, local-repeat, local-stop}
 use Rattle.transfer.proofs.Putting.{same-narrow}
+use Rattle.windows.specs.Within.{withinOf, listedIn}
+use Rattle.windows.proofs.Locality.{local-within}
 use Rattle.step.specs.Verdict.{stepVerdict, isFine}
 use Rattle.step.specs.Touches.{reach, touchesOf}
 use Rattle.step.specs.declared.Refusal.{Refusal}
-use Rattle.step.proofs.Fine.{command-fine, front-fine, inhibit-fine, scan-fine, repeat-fine, stop-fine, narrow-at, put-fields, put-lent-fields}
+use Rattle.step.proofs.Fine.{command-fine, front-fine, inhibit-fine, scan-fine, repeat-fine, stop-fine, narrow-at, put-fields, put-lent-fields, within-fields}
 use Rattle.step.specs.declared.Refusal.the-variants.{UnfitCrate}
 use Rattle.step.specs.declared.Step.{Step}
-use Rattle.step.specs.declared.Step.the-variants.{Command, Front, Z, C, Inhibit, LookAtMe, Scan, Repeat, Stop, Put, PutLent, Processor}
+use Rattle.step.specs.declared.Step.the-variants.{Command, Front, Z, C, Inhibit, LookAtMe, Scan, Repeat, Stop, Put, PutLent, Processor, Within}
 use Rattle.step.specs.declared.Short.{Short}
 use Rattle.step.specs.declared.Short.the-variants.{ShortScan, ShortRepeat, ShortStop}
 use Rattle.step.specs.Entries.{generalOf}
@@ -39,7 +41,7 @@ use Rattle.step.specs.declared.Reading.{Reading}
 use Rattle.step.specs.declared.Reading.the-variants.{Good, Bad}
 use Rattle.step.specs.declared.Verdict.{Verdict}
 use Rattle.step.specs.declared.Verdict.the-variants.{Fine, Refuse}
-use Rattle.controller.specs.declared.Answer.the-variants.{Replied, Taken, Transferred, Wrote, Refused}
+use Rattle.controller.specs.declared.Answer.the-variants.{Replied, Taken, Transferred, Wrote, Listed, Refused}
 use Rattle.controller.specs.Steps.{Order, Out, Performed, refused, actOf, judgedOf, readingDone, doneOf, stepOf, leaves, gives, touches}
 use Rattle.controller.specs.Regrouping.{beyond, Regrouping}
 
@@ -110,6 +112,12 @@ good (PutLent n a to limit) b e =
     let ws = take limit b in
     local-map FitCrate crate-size on (λ (m : List ℕ). putOf m n a to limit ws .memory) (λ (m : List ℕ). told (putOf m n a to limit ws)) (wroteOut b)
     (local-put n a (h .0) (h .2) on to limit ws (narrow-at ws (h .8)) (h .4) (λ i p q. rw (le-leb n i p, le-leb i to q)))
+good (Within n to lo hi) b e =
+    let h = within-fields n to lo hi (length b) e in
+    let on = reach (Within n to lo hi) in
+    local-map FitCrate crate-size on (λ (m : List ℕ). m) (λ (m : List ℕ). withinOf m n to lo hi)
+    (λ (ps : List ℕ). record { answer = Listed (length ps); buffer = listedIn ps b })
+    (local-within on n to (h .0) (h .3) (λ i p q. rw (le-leb n i p, le-leb i to q)) lo hi)
 
 -- ---- any step, refused or not
 local-done : (o : Order) → Local FitCrate (touches o) (λ (m : List ℕ). doneOf m o .memory) (λ (m : List ℕ). doneOf m o .out)

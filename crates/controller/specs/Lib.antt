@@ -11,3 +11,4 @@ pub mod Covered
 pub mod Register
 pub mod Many
 pub mod Processor
+pub mod Listings

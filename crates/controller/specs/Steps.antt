@@ -3,7 +3,7 @@
 use Prim.Native.Nat.{ℕ}
 use mathlib.Core.Bool.{Bool, cond}
 use mathlib.Core.List.{List}
-use lib.ListN.{take, replicate}
+use lib.ListN.{length, take, replicate}
 use Rattle.dataway.specs.Crate.{isFitCrate}
 use Rattle.dataway.specs.Stations.{takenOf, afterFront}
 use Rattle.dataway.specs.Addressed.{sentOf}
@@ -14,12 +14,13 @@ use Rattle.transfer.specs.Scan.{scanOf}
 use Rattle.transfer.specs.Repeat.{repeatOf}
 use Rattle.transfer.specs.Stop.{stopOf}
 use Rattle.transfer.specs.Put.{putOf}
+use Rattle.windows.specs.Within.{withinOf, listedIn}
 use Rattle.step.specs.Verdict.{stepVerdict}
 use Rattle.step.specs.Touches.{touchesOf}
 use Rattle.step.specs.declared.Refusal.{Refusal}
 use Rattle.step.specs.declared.Refusal.the-variants.{UnfitCrate}
 use Rattle.step.specs.declared.Step.{Step}
-use Rattle.step.specs.declared.Step.the-variants.{Command, Front, Z, C, Inhibit, LookAtMe, Scan, Repeat, Stop, Put, PutLent, Processor}
+use Rattle.step.specs.declared.Step.the-variants.{Command, Front, Z, C, Inhibit, LookAtMe, Scan, Repeat, Stop, Put, PutLent, Processor, Within}
 use Rattle.step.specs.declared.Short.{Short}
 use Rattle.step.specs.declared.Short.the-variants.{ShortScan, ShortRepeat, ShortStop}
 use Rattle.step.specs.declared.Reading.{Reading}
@@ -27,7 +28,7 @@ use Rattle.step.specs.declared.Reading.the-variants.{Good, Bad}
 use Rattle.step.specs.declared.Verdict.{Verdict}
 use Rattle.step.specs.declared.Verdict.the-variants.{Fine, Refuse}
 use Rattle.controller.specs.declared.Answer.{Answer}
-use Rattle.controller.specs.declared.Answer.the-variants.{Replied, Taken, Done, Looked, Transferred, Wrote, Refused}
+use Rattle.controller.specs.declared.Answer.the-variants.{Replied, Taken, Done, Looked, Transferred, Wrote, Listed, Refused}
 
 -- a step of a list: its reading, and the words of the buffer that it is handed
 pub record Order : Type 0 where
@@ -58,6 +59,10 @@ transferred e b = performed (e .memory) (Transferred (transferOf e)) (bufferAfte
 abbrev pub wrote : Ended → List ℕ → Performed
 wrote e b = performed (e .memory) (Wrote (transferOf e)) b
 
+-- a listing of these registers: the crate stays as it was
+abbrev pub listed : (ps m b : List ℕ) → Performed
+listed ps m b = performed m (Listed (length ps)) (listedIn ps b)
+
 -- a refusal returns only its number and changes nothing
 abbrev pub refused : Refusal → List ℕ → List ℕ → Performed
 refused q m b = performed m (Refused q) b
@@ -82,6 +87,7 @@ actOf m (Stop n a f limit) b = transferred (stopOf m n a f limit) b
 actOf m (Put n a to limit w) b = wrote (putOf m n a to limit (replicate limit w)) b
 actOf m (PutLent n a to limit) b = wrote (putOf m n a to limit (take limit b)) b
 actOf m (Processor t) b = transferred (shortOf m t) b
+actOf m (Within n to lo hi) b = listed (withinOf m n to lo hi) m b
 
 -- a step with its verdict
 abbrev pub judgedOf : Verdict → List ℕ → Step → List ℕ → Performed

@@ -35,6 +35,8 @@ pub enum Answer {
     Transferred(Transfer),
     // A put: end, words used up and cycles.
     Wrote(Transfer),
+    // A listing of the registers inside a window: how many there are.
+    Listed(u32),
     // A step that is refused.
     Refused(Refusal),
 }
@@ -96,6 +98,9 @@ fn act(memory: &mut [u32], step: Step, buffer: &mut [u32]) -> Answer
             Answer::Wrote(transfer::put::put_lent(memory, buffer, n, a, to, limit))
         }
         Step::Processor(short) => Answer::Transferred(act_short(memory, short, buffer)),
+        Step::Within { n, to, lo, hi } => {
+            Answer::Listed(windows::list_within(memory, buffer, n, to, lo, hi))
+        }
     }
 }
 

@@ -158,6 +158,18 @@ fn put_lent(lent: usize, at: usize, w: u32, n: u32, a: u32, to: u32, limit: u32)
     );
 }
 
+fn within(lent: usize, n: u32, to: u32, lo: u32, hi: u32) {
+    lend(
+        lent,
+        Step::Within {
+            n: n,
+            to: to,
+            lo: lo,
+            hi: hi,
+        },
+    );
+}
+
 // A crate line after one for the station `previous`, in a station whose word 7 is `covered`.
 fn crate_line(previous: u32, covered: u32, n: u32, kind: u32, r: u32, wide: u32) {
     show(step::judge_module(
@@ -474,6 +486,30 @@ fn processors() {
     stop(512, 3, 0, 0, 512);
 }
 
+// A listing of the registers inside a window: 2, 6, 5 for lo, 5 for hi, 14, and 8 for fewer than sixteen words a station.
+fn windows() {
+    within(513, 24, 2, 9, 1);
+    within(513, 3, 2, 16777216, 0);
+    within(513, 3, 24, 16777216, 0);
+    within(513, 3, 7, 16777216, 0);
+    within(513, 3, 7, 9, 16777216);
+    within(513, 3, 7, 2, 1);
+    within(0, 3, 7, 2, 1);
+    within(79, 3, 7, 1, 1);
+    within(80, 3, 7, 1, 1);
+    within(513, 0, 24, 2, 1);
+    within(513, 26, 26, 0, 0);
+    within(513, 28, 28, 0, 0);
+    within(513, 30, 30, 0, 0);
+    within(0, 4294967295, 0, 0, 0);
+    within(0, 1, 4294967295, 2, 1);
+    within(0, 3, 7, 16777215, 16777214);
+    within(16, 23, 23, 16777215, 16777215);
+    within(15, 23, 23, 0, 0);
+    within(367, 1, 23, 0, 16777215);
+    within(368, 1, 23, 0, 16777215);
+}
+
 fn main() {
     // the two that no field decides
     show(Verdict::Refuse(Refusal::Garbled));
@@ -501,4 +537,5 @@ fn main() {
     no_station(28);
     no_station(30);
     processors();
+    windows();
 }

@@ -92,6 +92,14 @@ one-of-only x y h = eqb-true x y (go (eqb x y) h)
     go true h = refl
     go false h = h
 
+-- a number of a list is its first, or one of the others
+pub one-of-first : (x y : ℕ) (zs : List ℕ) → isOneOf x (y ∷ zs) ≡ true → (x ≡ y) ⊎ (isOneOf x zs ≡ true)
+one-of-first x y zs h = go (eqb x y) (eqb-true x y) h
+  where
+    go : (t : Bool) → (t ≡ true → x ≡ y) → t || isOneOf x zs ≡ true → (x ≡ y) ⊎ (isOneOf x zs ≡ true)
+    go true f h = inl (f refl)
+    go false f h = inr h
+
 -- a number of the list is none that the list lacks
 pub one-of-apart : (x y : ℕ) (zs : List ℕ) → isOneOf x zs ≡ true → isOneOf y zs ≡ false → x ≡ y → ⊥
 one-of-apart x y zs h g e = true≢false (sym h ∙ ap (λ (n : ℕ). isOneOf n zs) e ∙ g)

@@ -141,15 +141,38 @@ fn show_words(sign: &[u8], words: &[u32], from: usize, to: usize) {
     }
 }
 
-// The answer to step k, and of a transfer the first four words of its buffer.
+// The last of so many words from one on, if there is one.
+fn show_last(words: &[u32], from: usize, count: u32)
+    requires { ⌜ from ≤ 10240 ⌝ }
+{
+    if 0 < count {
+        let end = from + count as usize;
+        show_words(b" ..", words, end - 1, end);
+    }
+}
+
+// The first four words of a step's buffer, where it is of a kind that stores, and of a listing the last that it listed.
+fn show_stored(kind: u32, count: u32, words: &[u32], from: usize)
+    requires { ⌜ from ≤ 10240 ⌝ }
+{
+    match kind {
+        5 => {
+            show_words(b" :", words, from, from + 4);
+        }
+        7 => {
+            show_words(b" :", words, from, from + 4);
+            show_last(words, from, count);
+        }
+        _ => {}
+    }
+}
+
+// The answer to step k, and what it stored.
 fn show_answer(answers: &[u32], buffers: &[u32], k: usize) {
     if k < LIST_STEPS {
         let at = 4 * k;
         show_words(b" |", answers, at, at + 4);
-        if word(answers, at) == 5 {
-            let from = 512 * k;
-            show_words(b" :", buffers, from, from + 4);
-        }
+        show_stored(word(answers, at), word(answers, at + 1), buffers, 512 * k);
     }
 }
 

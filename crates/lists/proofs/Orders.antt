@@ -14,7 +14,7 @@ use Rattle.controller.specs.Answers.{answerWords}
 use Rattle.controller.specs.Steps.{Order, Out, leaves, gives}
 use Rattle.controller.specs.Regrouping.{beyond}
 use Rattle.controller.specs.declared.Answer.{Answer}
-use Rattle.controller.specs.declared.Answer.the-variants.{Replied, Taken, Done, Looked, Transferred, Wrote, Refused}
+use Rattle.controller.specs.declared.Answer.the-variants.{Replied, Taken, Done, Looked, Transferred, Wrote, Listed, Refused}
 use Rattle.controller.proofs.Sentences.{step-long}
 use Rattle.lists.specs.Words.{part, orderAt, ordersOf}
 use Rattle.lists.specs.Runs.{joined, answerOf, bufferOf}
@@ -50,6 +50,7 @@ answer-long Done = refl
 answer-long (Looked r) = refl
 answer-long (Transferred r) = refl
 answer-long (Wrote r) = refl
+answer-long (Listed count) = refl
 answer-long (Refused q) = refl
 
 pub answers-long : (os : List Out) → Long answerOf 4 os

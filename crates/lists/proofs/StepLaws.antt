@@ -6,7 +6,7 @@ use mathlib.Core.List.{List, [], _∷_}
 use native.Mathlib.Omega.{arith}
 use lib.ListN.{length, set}
 use Rattle.step.specs.declared.Step.{Step}
-use Rattle.step.specs.declared.Step.the-variants.{Command, Front, Z, C, Inhibit, LookAtMe, Scan, Repeat, Stop, Put, PutLent, Processor}
+use Rattle.step.specs.declared.Step.the-variants.{Command, Front, Z, C, Inhibit, LookAtMe, Scan, Repeat, Stop, Put, PutLent, Processor, Within}
 use Rattle.step.specs.declared.Short.the-variants.{ShortScan, ShortRepeat, ShortStop}
 use Rattle.step.specs.declared.Reading.{Reading}
 use Rattle.step.specs.declared.Reading.the-variants.{Good, Bad}
@@ -41,6 +41,7 @@ step-words (PutLent n a to limit) = (refl, refl)
 step-words (Processor (ShortScan n a f to limit)) = (refl, refl)
 step-words (Processor (ShortRepeat n a f limit tries)) = (refl, refl)
 step-words (Processor (ShortStop n a f limit)) = (refl, refl)
+step-words (Within n to lo hi) = (refl, refl)
 
 -- has six words
 pub words-six : (s : Step) → length (stepWords s) ≡ 6

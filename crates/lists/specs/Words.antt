@@ -6,7 +6,7 @@ use lib.ListN.{getD, take, drop}
 use Rattle.kinds.specs.Cases.{Case, _does_, caseOf}
 use Rattle.step.specs.declared.Refusal.the-variants.{Garbled}
 use Rattle.step.specs.declared.Step.{Step}
-use Rattle.step.specs.declared.Step.the-variants.{Command, Front, Z, C, Inhibit, LookAtMe, Scan, Repeat, Stop, Put, PutLent, Processor}
+use Rattle.step.specs.declared.Step.the-variants.{Command, Front, Z, C, Inhibit, LookAtMe, Scan, Repeat, Stop, Put, PutLent, Processor, Within}
 use Rattle.step.specs.declared.Short.{Short}
 use Rattle.step.specs.declared.Short.the-variants.{ShortScan, ShortRepeat, ShortStop}
 use Rattle.step.specs.Entries.{generalOf}
@@ -31,6 +31,7 @@ stepWords (PutLent n a to limit) = 11 ∷ n ∷ a ∷ to ∷ limit ∷ 0 ∷ []
 stepWords (Processor (ShortScan n a f to limit)) = 17 ∷ n ∷ a ∷ f ∷ to ∷ limit ∷ []
 stepWords (Processor (ShortRepeat n a f limit tries)) = 18 ∷ n ∷ a ∷ f ∷ limit ∷ tries ∷ []
 stepWords (Processor (ShortStop n a f limit)) = 19 ∷ n ∷ a ∷ f ∷ limit ∷ 0 ∷ []
+stepWords (Within n to lo hi) = 12 ∷ n ∷ to ∷ lo ∷ hi ∷ 0 ∷ []
 
 -- AT THE TRIGGER PROCESSOR'S ENTRY the first word is ten more than at the general one, and the others are the same
 abbrev pub TenMore : Type 0
@@ -50,6 +51,7 @@ kindsOf w =
     ∷ 9 does Good (Stop (getD w 1 0) (getD w 2 0) (getD w 3 0) (getD w 4 0))
     ∷ 10 does Good (Put (getD w 1 0) (getD w 2 0) (getD w 3 0) (getD w 4 0) (getD w 5 0))
     ∷ 11 does Good (PutLent (getD w 1 0) (getD w 2 0) (getD w 3 0) (getD w 4 0))
+    ∷ 12 does Good (Within (getD w 1 0) (getD w 2 0) (getD w 3 0) (getD w 4 0))
     ∷ 17 does Good (Processor (ShortScan (getD w 1 0) (getD w 2 0) (getD w 3 0) (getD w 4 0) (getD w 5 0)))
     ∷ 18 does Good (Processor (ShortRepeat (getD w 1 0) (getD w 2 0) (getD w 3 0) (getD w 4 0) (getD w 5 0)))
     ∷ 19 does Good (Processor (ShortStop (getD w 1 0) (getD w 2 0) (getD w 3 0) (getD w 4 0)))

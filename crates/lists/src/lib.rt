@@ -79,6 +79,12 @@ pub fn read_step(words: &[u32]) -> Reading
             to: r,
             limit: s,
         }),
+        12 => Reading::Good(Step::Within {
+            n: p,
+            to: q,
+            lo: r,
+            hi: s,
+        }),
         17 => Reading::Good(Step::Processor(Short::ShortScan {
             n: p,
             a: q,
@@ -140,6 +146,7 @@ pub fn write_step(out: &mut [u32], step: Step)
         Step::Put { n, a, to, limit, w } => put_six(out, 10, n, a, to, limit, w),
         Step::PutLent { n, a, to, limit } => put_six(out, 11, n, a, to, limit, 0),
         Step::Processor(short) => write_short(out, short),
+        Step::Within { n, to, lo, hi } => put_six(out, 12, n, to, lo, hi, 0),
     }
 }
 
@@ -185,6 +192,7 @@ pub fn write_answer(out: &mut [u32], answer: Answer)
         Answer::Looked(p) => put_four(out, 4, p.l, p.count, p.first),
         Answer::Transferred(p) => put_four(out, 5, p.end, p.words, p.cycles),
         Answer::Wrote(p) => put_four(out, 6, p.end, p.words, p.cycles),
+        Answer::Listed(count) => put_four(out, 7, count, 0, 0),
     }
 }
 

@@ -7,7 +7,7 @@ use libc::STDOUT_FILENO;
 use listfile::LIST_WORDS;
 
 // The number of the last pair.
-const CASES: u8 = 46;
+const CASES: u8 = 51;
 
 // Compares pair k, in lent buffers.
 fn compare_pair(

@@ -102,6 +102,12 @@ fn show_step(step: Step) {
         Step::Processor(short) => {
             show(b"Processor");
         }
+        Step::Within { n, to, lo, hi } => {
+            show_field(b"Within n=", n);
+            show_field(b" to=", to);
+            show_field(b" lo=", lo);
+            show_field(b" hi=", hi);
+        }
     }
 }
 

@@ -8,7 +8,7 @@ use Rattle.step.specs.Verdict.{stepVerdict}
 use Rattle.step.specs.declared.Reading.{Reading}
 use Rattle.step.specs.declared.Reading.the-variants.{Good, Bad}
 use Rattle.step.specs.declared.Step.{Step}
-use Rattle.step.specs.declared.Step.the-variants.{Command, Front, Z, C, Inhibit, LookAtMe, Scan, Repeat, Stop, Put, PutLent, Processor}
+use Rattle.step.specs.declared.Step.the-variants.{Command, Front, Z, C, Inhibit, LookAtMe, Scan, Repeat, Stop, Put, PutLent, Processor, Within}
 use Rattle.step.specs.declared.Verdict.{Verdict}
 use Rattle.step.specs.declared.Verdict.the-variants.{Fine, Refuse}
 use Rattle.controller.specs.Steps.{order, judgedOf, doneOf}
@@ -30,6 +30,7 @@ module _ (b c : List ℕ) where
   judged-alike (Put n a to limit w) e = refl
   judged-alike (PutLent n a to limit) e = absurd (false≢true (sym e))
   judged-alike (Processor t) e = absurd (false≢true (sym e))
+  judged-alike (Within n to lo hi) e = absurd (false≢true (sym e))
 
   -- and, with its verdict, it comes to the same
   done-alike : (v : Verdict) (k : ℕ) (s : Work) (t : Step) → usesBuffer (Good t) ≡ false
@@ -48,6 +49,7 @@ module _ (b c : List ℕ) where
   done-alike Fine k s (Put n a to limit w) e = refl
   done-alike Fine k s (PutLent n a to limit) e = absurd (false≢true (sym e))
   done-alike Fine k s (Processor t) e = absurd (false≢true (sym e))
+  done-alike Fine k s (Within n to lo hi) e = absurd (false≢true (sym e))
 
   pub unseen : (k : ℕ) (s : Work) (r : Reading) → usesBuffer r ≡ false
       → afterStep (doneOf (s .memory) (order r b)) k s ≡ afterStep (doneOf (s .memory) (order r c)) k s

@@ -11,7 +11,7 @@ use Rattle.runfile.specs.Read.{readModule}
 use Rattle.dataway.specs.Crate.{FitCrate, emptyCrate}
 use Rattle.step.specs.declared.Reading.{Reading}
 use Rattle.step.specs.declared.Reading.the-variants.{Good, Bad}
-use Rattle.step.specs.declared.Step.the-variants.{Command, Front, Z, C, Inhibit, LookAtMe, Scan, Repeat, Stop, Put, PutLent, Processor}
+use Rattle.step.specs.declared.Step.the-variants.{Command, Front, Z, C, Inhibit, LookAtMe, Scan, Repeat, Stop, Put, PutLent, Processor, Within}
 use Rattle.step.specs.declared.Verdict.{Verdict}
 use Rattle.step.specs.declared.Verdict.the-variants.{Fine, Refuse}
 use Rattle.controller.specs.Steps.{Performed, stepOf}
@@ -44,7 +44,7 @@ afterStep p k s = record { phase = 1; previous = s .previous; memory = p .memory
 abbrev pub next : (ℕ → Work → Work) → State → State
 next f s = record { part = []; number = s .number + 1; held = f (s .number + 1) (s .held) }
 
--- a reading that looks at the buffer that it is lent: a block transfer, but for a put of one word. Any other prints and leaves the same with any buffer:
+-- a reading that looks at the buffer that it is lent: a block transfer, but for a put of one word, and a listing. Any other prints and leaves the same with any buffer:
 -- `unseen` in proofs/Buffers
 abbrev pub usesBuffer : Reading → Bool
 usesBuffer (Bad q) = false
@@ -60,6 +60,7 @@ usesBuffer (Good (Stop n a f limit)) = true
 usesBuffer (Good (Put n a to limit w)) = false
 usesBuffer (Good (PutLent n a to limit)) = true
 usesBuffer (Good (Processor t)) = true
+usesBuffer (Good (Within n to lo hi)) = true
 
 -- after the crate line l, with number k
 unfoldable pub moduleLine : List ℕ → (k : ℕ) → Work → Work

@@ -81,7 +81,7 @@ fn end_module_line(s: Reader, line: &[u8], memory: &mut [u32], out: &mut [u8]) -
     }
 }
 
-// The reading looks at the buffer that it is lent: a block transfer does, but for a put of one word. Every kind of step is named, so that a new one is decided here.
+// The reading looks at the buffer that it is lent: a block transfer does, but for a put of one word, and a listing. Every kind of step is named, so that a new one is decided here.
 fn uses_buffer(reading: Reading) -> bool
     ensures { λ r. ⌜ r ≡ usesBuffer reading ⌝ }
 {
@@ -106,6 +106,7 @@ fn uses_buffer(reading: Reading) -> bool
             Step::Put { n, a, to, limit, w } => false,
             Step::PutLent { n, a, to, limit } => true,
             Step::Processor(short) => true,
+            Step::Within { n, to, lo, hi } => true,
         },
     }
 }

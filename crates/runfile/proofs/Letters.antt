@@ -13,9 +13,9 @@ use Rattle.step.specs.declared.Reading.{Reading}
 use Rattle.step.specs.declared.Reading.the-variants.{Good, Bad}
 use Rattle.step.specs.declared.Refusal.the-variants.{Garbled}
 use Rattle.step.specs.declared.Step.{Step}
-use Rattle.step.specs.declared.Step.the-variants.{Command, Front, Z, C, Inhibit, LookAtMe, Repeat, Put}
+use Rattle.step.specs.declared.Step.the-variants.{Command, Front, Z, C, Inhibit, LookAtMe, Repeat, Put, Within}
 use Rattle.runfile.specs.Read.{absent, readField, equal, orElse, exactly, headOf}
-use Rattle.runfile.specs.Read.{nafLine, frontLine, bareLine, inhibitLine, scanLine, repeatLine, stopLine, putLine, readLine}
+use Rattle.runfile.specs.Read.{nafLine, frontLine, bareLine, inhibitLine, scanLine, repeatLine, stopLine, putLine, withinLine, readLine}
 use Rattle.runfile.proofs.RunLines.{OnlyGarbled, only-ended, only-then, only-head}
 
 -- ---- a key or a word that differs from the line at place i
@@ -63,7 +63,8 @@ chosen c l =
     (orElse (at c "l" (bareLine (bytes "op=lam") LookAtMe l))
     (orElse (at c "s" (scanLine l))
     (orElse (at c "r" (repeatLine l))
-    (orElse (at c "p" (putLine l)) (at c "s" (stopLine l))))))))))
+    (orElse (at c "p" (putLine l))
+    (orElse (at c "w" (withinLine l)) (at c "s" (stopLine l)))))))))))
 
 module _ (l : List ℕ) where
   -- a form that reads a line with another letter as garbled may be tried at its letter only
@@ -110,6 +111,10 @@ module _ (l : List ℕ) where
   unfolding putLine
   at-p = at-letter "p" (putLine l) λ h. rw (other-field 3 (bytes "op=put n=") l (omega arith) h)
 
+  at-w : withinLine l ≡ at (letter l) "w" (withinLine l)
+  unfolding withinLine
+  at-w = at-letter "w" (withinLine l) λ h. rw (other-field 3 (bytes "op=within n=") l (omega arith) h)
+
   at-stop : stopLine l ≡ at (letter l) "s" (stopLine l)
   unfolding stopLine headOf
   at-stop = at-letter "s" (stopLine l) λ h. rw (other-field 3 (bytes "op=stop n=") l (omega arith) h)
@@ -120,7 +125,7 @@ module _ (l : List ℕ) where
   by-letter c e =
       ap (λ (c : ℕ). chosen c l) (sym e)
       ∙ sym (ap₂ orElse at-n (ap₂ orElse at-f (ap₂ orElse at-z (ap₂ orElse at-c (ap₂ orElse at-i (ap₂ orElse at-l
-      (ap₂ orElse at-scan (ap₂ orElse at-r (ap₂ orElse at-p at-stop)))))))))
+      (ap₂ orElse at-scan (ap₂ orElse at-r (ap₂ orElse at-p (ap₂ orElse at-w at-stop))))))))))
 
 -- ---- what `read_line` answers at each letter
 -- garbled is the one refusal of a form, so a last try that is garbled changes nothing
@@ -187,6 +192,15 @@ module _ (l : List ℕ) where
       only-then (readField (bytes " w=") r₄) _ λ w r₅.
       only-ended r₅ (Put n a to limit w)) ∙ by-letter l 112 e
 
+  pub letter-w : letter l ≡ 119 → withinLine l ≡ readLine l
+  unfolding withinLine
+  letter-w e = alone (withinLine l)
+      (only-then (readField (bytes "op=within n=") l) _ λ n r₁.
+      only-then (readField (bytes " to=") r₁) _ λ to r₂.
+      only-then (readField (bytes " lo=") r₂) _ λ lo r₃.
+      only-then (readField (bytes " hi=") r₃) _ λ hi r₄.
+      only-ended r₄ (Within n to lo hi)) ∙ by-letter l 119 e
+
 -- a line that ends before its letter
 pub no-letter : (l : List ℕ) → length l < 4 → Bad Garbled ≡ readLine l
 no-letter l h = by-letter l 0 (none l 3 (omega arith))
@@ -200,8 +214,20 @@ no-letter l h = by-letter l 0 (none l 3 (omega arith))
 pub other-letter : (l : List ℕ)
     → (letter l ≡ 110 → ⊥) → (letter l ≡ 102 → ⊥) → (letter l ≡ 122 → ⊥) → (letter l ≡ 99 → ⊥)
     → (letter l ≡ 105 → ⊥) → (letter l ≡ 108 → ⊥) → (letter l ≡ 115 → ⊥) → (letter l ≡ 114 → ⊥) → (letter l ≡ 112 → ⊥)
+    → (letter l ≡ 119 → ⊥)
     → Bad Garbled ≡ readLine l
-other-letter l n f z c i lam s r p =
+other-letter l n f z c i lam s r p w =
     let x = letter l in
-    rw (ne-eqb x 110 n, ne-eqb x 102 f, ne-eqb x 122 z, ne-eqb x 99 c, ne-eqb x 105 i, ne-eqb x 108 lam, ne-eqb x 115 s, ne-eqb x 114 r, ne-eqb x 112 p)
+    rw (
+      ne-eqb x 110 n,
+      ne-eqb x 102 f,
+      ne-eqb x 122 z,
+      ne-eqb x 99 c,
+      ne-eqb x 105 i,
+      ne-eqb x 108 lam,
+      ne-eqb x 115 s,
+      ne-eqb x 114 r,
+      ne-eqb x 112 p,
+      ne-eqb x 119 w,
+    )
     at (by-letter l x refl)

@@ -15,11 +15,11 @@ use Rattle.step.specs.declared.Reading.the-variants.{Good, Bad}
 use Rattle.step.specs.declared.Refusal.{Refusal}
 use Rattle.step.specs.declared.Refusal.the-variants.{Garbled}
 use Rattle.step.specs.declared.Step.{Step}
-use Rattle.step.specs.declared.Step.the-variants.{Command, Front, Z, C, Inhibit, LookAtMe, Scan, Repeat, Stop, Put, PutLent, Processor}
+use Rattle.step.specs.declared.Step.the-variants.{Command, Front, Z, C, Inhibit, LookAtMe, Scan, Repeat, Stop, Put, PutLent, Processor, Within}
 use Rattle.step.specs.declared.Short.{Short}
 use Rattle.runfile.specs.Lines.{text, FieldsFit, IsText, Reads}
 use Rattle.runfile.specs.Read.{Taken, taken, absent, Heads, heads, headless, readField, equal, ended, andThen, orElse, exactly}
-use Rattle.runfile.specs.Read.{nafLine, frontLine, bareLine, inhibitLine, scanLine, repeatLine, stopLine, putLine, readLine}
+use Rattle.runfile.specs.Read.{nafLine, frontLine, bareLine, inhibitLine, scanLine, repeatLine, stopLine, putLine, withinLine, readLine}
 use Rattle.runfile.specs.Read.{thenHeads, headOf, withHead}
 use Rattle.runfile.proofs.Numbers.{read-number, field-written}
 
@@ -162,6 +162,16 @@ put-written l s =
     and-ended l r₅ (Put n a to limit w) s λ hz.
     (rw (h₁, h₂, h₃, h₄, hz) at hl, (hn, ha, ht, hm, hw))
 
+within-written : (l : List ℕ) (s : Step) → withinLine l ≡ Good s → IsText l s
+unfolding withinLine text
+within-written l s =
+    and-then (bytes "op=within n=") l _ s λ n r₁ hl hn.
+    and-then (bytes " to=") r₁ _ s λ to r₂ h₁ ht.
+    and-then (bytes " lo=") r₂ _ s λ lo r₃ h₂ hlo.
+    and-then (bytes " hi=") r₃ _ s λ hi r₄ h₃ hhi.
+    and-ended l r₄ (Within n to lo hi) s λ hz.
+    (rw (h₁, h₂, h₃, hz) at hl, (hn, ht, hlo, hhi))
+
 or-good : (a b : Reading) (s : Step) {A : Type 0} → (a ≡ Good s → A) → (b ≡ Good s → A) → orElse a b ≡ Good s → A
 or-good (Good s₀) b s first second e = first e
 or-good (Bad q) b s first second e = second e
@@ -178,11 +188,12 @@ good-is-text l s =
     (or-good (bareLine (bytes "op=lam") LookAtMe l) _ s (bare-written (bytes "op=lam") LookAtMe l s λ h. (h, tt))
     (or-good (scanLine l) _ s (scan-written l s)
     (or-good (repeatLine l) _ s (repeat-written l s)
-    (or-good (putLine l) (stopLine l) s (put-written l s) (stop-written l s)))))))))
+    (or-good (putLine l) _ s (put-written l s)
+    (or-good (withinLine l) (stopLine l) s (within-written l s) (stop-written l s))))))))))
 
 -- the text of a step is read as the step
 pub text-is-good : (s : Step) → FieldsFit s → readLine (text s) ≡ Good s
-unfolding readLine text nafLine frontLine bareLine inhibitLine scanLine repeatLine stopLine putLine headOf
+unfolding readLine text nafLine frontLine bareLine inhibitLine scanLine repeatLine stopLine putLine withinLine headOf
 text-is-good (Command n a f w) h = rw (read-number n _ (h .0), read-number a _ (h .1), read-number f _ (h .2), read-number w _ (h .3))
 text-is-good (Front n a v) h = rw (read-number n _ (h .0), read-number a _ (h .1), read-number v _ (h .2))
 text-is-good Z h = refl
@@ -199,6 +210,7 @@ text-is-good (Put n a to limit w) h =
     rw (read-number n _ (h .0), read-number a _ (h .1), read-number to _ (h .2), read-number limit _ (h .3), read-number w _ (h .4))
 text-is-good (PutLent n a to limit) h = absurd h
 text-is-good (Processor t) h = absurd h
+text-is-good (Within n to lo hi) h = rw (read-number n _ (h .0), read-number to _ (h .1), read-number lo _ (h .2), read-number hi _ (h .3))
 
 -- a bad reading has the one number, garbled
 abbrev pub OnlyGarbled : Reading → Type 0
@@ -227,10 +239,10 @@ unfolding readLine stopLine
 only-garbled l =
     only-or (nafLine l) _ (only-or (frontLine l) _ (only-or (bareLine (bytes "op=z") Z l) _
     (only-or (bareLine (bytes "op=c") C l) _ (only-or (inhibitLine l) _ (only-or (bareLine (bytes "op=lam") LookAtMe l) _
-    (only-or (scanLine l) _ (only-or (repeatLine l) _ (only-or (putLine l) _
+    (only-or (scanLine l) _ (only-or (repeatLine l) _ (only-or (putLine l) _ (only-or (withinLine l) _
     (only-head (headOf (bytes "op=stop n=") l) _ λ n a f r.
     only-then (readField (bytes " limit=") r) _ λ limit r₁.
-    only-ended r₁ (Stop n a f limit))))))))))
+    only-ended r₁ (Stop n a f limit)))))))))))
 
 pub reads : (l : List ℕ) → Reads l (readLine l)
 reads l = go (readLine l) refl (only-garbled l)
@@ -300,6 +312,8 @@ longest-text (Put n a to limit w) h =
     ))
 longest-text (PutLent n a to limit) h = absurd h
 longest-text (Processor t) h = absurd h
+longest-text (Within n to lo hi) h =
+    simp length-append (omega (arith, length-eight n (h .0), length-eight to (h .1), length-eight lo (h .2), length-eight hi (h .3)))
 
 pub short-text : (s : Step) → FieldsFit s → length (text s) ≤ 80
 short-text s h = omega (arith, longest-text s h)

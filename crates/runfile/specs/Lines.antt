@@ -11,7 +11,7 @@ use Rattle.step.specs.declared.Reading.{Reading}
 use Rattle.step.specs.declared.Reading.the-variants.{Good, Bad}
 use Rattle.step.specs.declared.Refusal.the-variants.{Garbled}
 use Rattle.step.specs.declared.Step.{Step}
-use Rattle.step.specs.declared.Step.the-variants.{Command, Front, Z, C, Inhibit, LookAtMe, Scan, Repeat, Stop, Put, PutLent, Processor}
+use Rattle.step.specs.declared.Step.the-variants.{Command, Front, Z, C, Inhibit, LookAtMe, Scan, Repeat, Stop, Put, PutLent, Processor, Within}
 
 -- the line of a step
 unfoldable pub text : Step → List ℕ
@@ -30,6 +30,7 @@ text (Put n a to limit w) =
     fieldThen "op=put n=" n (fieldThen " a=" a (fieldThen " to=" to (fieldThen " limit=" limit (fieldThen " w=" w []))))
 text (PutLent n a to limit) = []  -- it has no line: `FieldsFit` is false of it
 text (Processor t) = []  -- nor has a transfer at the trigger processor's entry
+text (Within n to lo hi) = fieldThen "op=within n=" n (fieldThen " to=" to (fieldThen " lo=" lo (fieldThen " hi=" hi [])))
 
 -- the line of a module
 unfoldable pub moduleText : Module → List ℕ
@@ -53,11 +54,12 @@ FieldsFit (Stop n a f limit) = Small n × Small a × Small f × Small limit
 FieldsFit (Put n a to limit w) = Small n × Small a × Small to × Small limit × Small w
 FieldsFit (PutLent n a to limit) = ⊥
 FieldsFit (Processor t) = ⊥
+FieldsFit (Within n to lo hi) = Small n × Small to × Small lo × Small hi
 
 abbrev pub ModuleFits : Module → Type 0
 ModuleFits p = Small (p .n) × Small (p .kind) × Small (p .r) × Small (p .wide)
 
--- the line l is in form, and says s. Such a line has 72 bytes at most (a Repeat; a put 66), so a line over 80 bytes is in no form.
+-- the line l is in form, and says s. Such a line has 72 bytes at most (a Repeat; a put 66, a listing 56), so a line over 80 bytes is in no form.
 abbrev pub IsText : List ℕ → Step → Type 0
 IsText l s = (l ≡ text s) × FieldsFit s
 

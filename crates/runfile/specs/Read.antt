@@ -13,7 +13,7 @@ use Rattle.step.specs.declared.Reading.{Reading}
 use Rattle.step.specs.declared.Reading.the-variants.{Good, Bad}
 use Rattle.step.specs.declared.Refusal.the-variants.{Garbled}
 use Rattle.step.specs.declared.Step.{Step}
-use Rattle.step.specs.declared.Step.the-variants.{Command, Front, Z, C, Inhibit, LookAtMe, Scan, Repeat, Stop, Put}
+use Rattle.step.specs.declared.Step.the-variants.{Command, Front, Z, C, Inhibit, LookAtMe, Scan, Repeat, Stop, Put, Within}
 
 -- the bytes `0` to `9`
 abbrev pub digit : ℕ → Bool
@@ -157,6 +157,15 @@ putLine l =
     andThen (readField (bytes " w=") l4) λ w l5.
     ended l5 (Put n a to limit w)
 
+-- op=within n= to= lo= hi=
+unfoldable pub withinLine : List ℕ → Reading
+withinLine l =
+    andThen (readField (bytes "op=within n=") l) λ n l1.
+    andThen (readField (bytes " to=") l1) λ to l2.
+    andThen (readField (bytes " lo=") l2) λ lo l3.
+    andThen (readField (bytes " hi=") l3) λ hi l4.
+    ended l4 (Within n to lo hi)
+
 -- a line of a run file
 unfoldable pub readLine : List ℕ → Reading
 readLine l =
@@ -168,7 +177,8 @@ readLine l =
     (orElse (bareLine (bytes "op=lam") LookAtMe l)
     (orElse (scanLine l)
     (orElse (repeatLine l)
-    (orElse (putLine l) (stopLine l)))))))))
+    (orElse (putLine l)
+    (orElse (withinLine l) (stopLine l))))))))))
 
 -- what follows a number of a crate line, if there is one
 abbrev pub andModule : Taken → (ℕ → List ℕ → ModuleLine) → ModuleLine

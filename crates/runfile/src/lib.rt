@@ -20,6 +20,7 @@ use transfers::read_put;
 use transfers::read_repeat;
 use transfers::read_scan;
 use transfers::read_stop;
+use transfers::read_within;
 ghost use mathlib.Core.Path.{_≡_};
 ghost use Rattle.runfile.specs.Lines.{Reads, ReadsModule};
 ghost use Rattle.runfile.specs.Read.{orElse, readLine, readModule};
@@ -52,6 +53,7 @@ pub fn read_line(line: &[u8]) -> Reading
         b's' => or_else(read_scan(line), read_stop(line)),
         b'r' => read_repeat(line),
         b'p' => read_put(line),
+        b'w' => read_within(line),
         _ => Reading::Bad(Refusal::Garbled),
     }
 }

@@ -1,4 +1,4 @@
-// The lines of the block transfers: scan, Repeat, Stop and put.
+// The lines of the block transfers, scan, Repeat, Stop and put, and of the listing of registers inside a window.
 use crate::fields::Head;
 use crate::fields::Number;
 use crate::fields::end_at;
@@ -8,7 +8,7 @@ use step::Reading;
 use step::Refusal;
 use step::Step;
 ghost use mathlib.Core.Path.{_≡_};
-ghost use Rattle.runfile.specs.Read.{scanLine, repeatLine, stopLine, putLine};
+ghost use Rattle.runfile.specs.Read.{scanLine, repeatLine, stopLine, putLine, withinLine};
 
 // op=scan n= a= f= to= limit=
 pub fn read_scan(line: &[u8]) -> Reading
@@ -152,6 +152,50 @@ pub fn read_put(line: &[u8]) -> Reading
             to: to,
             limit: limit,
             w: w,
+        },
+    )
+}
+
+// op=within n= to= lo= hi=
+pub fn read_within(line: &[u8]) -> Reading
+    ensures { λ r. ⌜ r ≡ withinLine (now (line .entry)) ⌝ }
+{
+    let Number::Value {
+        value: n,
+        next: after_n,
+    } = field_at(line, 0, b"op=within n=")
+    else {
+        return Reading::Bad(Refusal::Garbled);
+    };
+    let Number::Value {
+        value: to,
+        next: after_to,
+    } = field_at(line, after_n, b" to=")
+    else {
+        return Reading::Bad(Refusal::Garbled);
+    };
+    let Number::Value {
+        value: lo,
+        next: after_lo,
+    } = field_at(line, after_to, b" lo=")
+    else {
+        return Reading::Bad(Refusal::Garbled);
+    };
+    let Number::Value {
+        value: hi,
+        next: after_hi,
+    } = field_at(line, after_lo, b" hi=")
+    else {
+        return Reading::Bad(Refusal::Garbled);
+    };
+    end_at(
+        line,
+        after_hi,
+        Step::Within {
+            n: n,
+            to: to,
+            lo: lo,
+            hi: hi,
         },
     )
 }

@@ -18,7 +18,7 @@ use Rattle.step.specs.Refusals.{refusalNumber}
 use Rattle.transfer.specs.declared.Transfer.{Transfer}
 use Rattle.controller.specs.Steps.{Out}
 use Rattle.controller.specs.declared.Answer.{Answer}
-use Rattle.controller.specs.declared.Answer.the-variants.{Replied, Taken, Done, Looked, Transferred, Wrote, Refused}
+use Rattle.controller.specs.declared.Answer.the-variants.{Replied, Taken, Done, Looked, Transferred, Wrote, Listed, Refused}
 use Rattle.sheet.specs.Answers.{body, stepLine, stored, wordLine, wordLines, stepText}
 
 -- room for a number of ten digits is room for any
@@ -38,6 +38,7 @@ body-short Done = omega arith
 body-short (Looked p) = omega (arith, three-short (bytes " l=") (bytes " count=") (bytes " first=") (p .l) (p .count) (p .first))
 body-short (Transferred p) = three-short (bytes " end=") (bytes " words=") (bytes " cycles=") (p .end) (p .words) (p .cycles)
 body-short (Wrote p) = three-short (bytes " end=") (bytes " words=") (bytes " cycles=") (p .end) (p .words) (p .cycles)
+body-short (Listed count) = omega (arith, field-short (bytes " words=") count)
 body-short (Refused q) = omega (arith, field-short (bytes " refused=") (refusalNumber q))
 
 pub line-short : (k : ℕ) (a : Answer) → length (stepLine k a) ≤ 66
@@ -93,6 +94,7 @@ stored-few Done b h = omega arith
 stored-few (Looked p) b h = omega arith
 stored-few (Transferred p) b h = simp length-take (omega (arith, min-le-right (p .words) (length b)))
 stored-few (Wrote p) b h = omega arith
+stored-few (Listed count) b h = simp length-take (omega (arith, min-le-right count (length b)))
 stored-few (Refused q) b h = omega arith
 
 pub step-short : (k : ℕ) (o : Out) → length (o .buffer) ≤ 512 → length (stepText k o) ≤ 8258
@@ -102,7 +104,7 @@ step-short k o h =
     let w = words-short (stored (o .answer) (o .buffer)) in
     rw (length-append (stepLine k (o .answer)) (wordLines (stored (o .answer) (o .buffer)))) (omega (arith, line-short k (o .answer), w, n))
 
--- the words that a transfer stored, where it says so many
+-- the words that were stored, where an answer says so many
 stored-least : (n : ℕ) (b : List ℕ) → take (min n (length b)) b ≡ take n b
 stored-least n b = go (leb n (length b)) refl
   where
@@ -117,3 +119,7 @@ pub stored-transfer : (a : Answer) (p : Transfer) (b : List ℕ) (n : ℕ) → a
     → (take n b ≡ stored a b) × (n ≤ length b)
 stored-transfer a p b n e h =
     (ap (λ (k : ℕ). take k b) h ∙ stored-least (p .words) b ∙ ap (λ (v : Answer). stored v b) (sym e), omega (arith, h, min-le-right (p .words) (length b)))
+
+pub stored-listing : (a : Answer) (count : ℕ) (b : List ℕ) (n : ℕ) → a ≡ Listed count → n ≡ min count (length b) → (take n b ≡ stored a b) × (n ≤ length b)
+stored-listing a count b n e h =
+    (ap (λ (k : ℕ). take k b) h ∙ stored-least count b ∙ ap (λ (v : Answer). stored v b) (sym e), omega (arith, h, min-le-right count (length b)))

@@ -7,7 +7,7 @@ use Rattle.step.specs.Refusals.{refusalNumber}
 use Rattle.step.specs.declared.Refusal.{Refusal}
 use Rattle.controller.specs.Steps.{Out}
 use Rattle.controller.specs.declared.Answer.{Answer}
-use Rattle.controller.specs.declared.Answer.the-variants.{Replied, Taken, Done, Looked, Transferred, Wrote, Refused}
+use Rattle.controller.specs.declared.Answer.the-variants.{Replied, Taken, Done, Looked, Transferred, Wrote, Listed, Refused}
 
 -- the fields of an answer
 unfoldable pub body : Answer → List ℕ
@@ -17,13 +17,14 @@ body Done = bytes " done=1"
 body (Looked p) = field " l=" (p .l) ++ field " count=" (p .count) ++ field " first=" (p .first)
 body (Transferred p) = field " end=" (p .end) ++ field " words=" (p .words) ++ field " cycles=" (p .cycles)
 body (Wrote p) = field " end=" (p .end) ++ field " words=" (p .words) ++ field " cycles=" (p .cycles)
+body (Listed count) = field " words=" count
 body (Refused q) = field " refused=" (refusalNumber q)
 
 -- the line of step k
 unfoldable pub stepLine : ℕ → Answer → List ℕ
 stepLine k a = field "step=" k ++ body a ++ bytes "\n"
 
--- the words that a scan, a Repeat or a Stop stored, the first of its buffer; other steps store none, a put neither
+-- the words that a scan, a Repeat, a Stop or a listing stored, the first of its buffer; other steps store none, a put neither
 abbrev pub stored : Answer → List ℕ → List ℕ
 stored (Replied p) buffer = []
 stored (Taken v) buffer = []
@@ -31,6 +32,7 @@ stored Done buffer = []
 stored (Looked p) buffer = []
 stored (Transferred p) buffer = take (p .words) buffer
 stored (Wrote p) buffer = []
+stored (Listed count) buffer = take count buffer
 stored (Refused q) buffer = []
 
 -- the line of one stored word

@@ -62,6 +62,7 @@ fn put_body(out: &mut [u8], at: usize, answer: Answer) -> usize
         Answer::Looked(p) => put_reading(out, at, p),
         Answer::Transferred(p) => put_transfer(out, at, p),
         Answer::Wrote(p) => put_transfer(out, at, p),
+        Answer::Listed(count) => put_field(out, at, b" words=", count),
         Answer::Refused(q) => put_field(out, at, b" refused=", step::refusal_number(q)),
     }
 }
@@ -122,6 +123,7 @@ fn count_stored(answer: Answer, buffer: &[u32]) -> usize
         Answer::Looked(_) => 0,
         Answer::Transferred(p) => least(p.words as usize, buffer.len()),
         Answer::Wrote(_) => 0,
+        Answer::Listed(count) => least(count as usize, buffer.len()),
         Answer::Refused(_) => 0,
     }
 }

@@ -9,12 +9,13 @@ use borrow.Author.Tests.{leb-true, eqb-true}
 use lib.Dec.{leb, eqb}
 use lib.ListN.{length, take, getD}
 use Rattle.step.specs.declared.Refusal.{Refusal}
-use Rattle.step.specs.declared.Refusal.the-variants.{NoSuchStation, NoSuchSubaddress, NoSuchFunction, OverwideWord, CrossedRange, BadLength, ShortBuffer}
+use Rattle.step.specs.declared.Refusal.the-variants.{NoSuchStation, NoSuchSubaddress, NoSuchFunction, OverwideWord, CrossedRange, BadLength, ShortBuffer, CrossedWindow}
 use Rattle.step.specs.declared.Verdict.{Verdict}
 use Rattle.step.specs.declared.Verdict.the-variants.{Fine}
 use Rattle.step.specs.Verdict.{within, unless, isFine, transfer, stationThen, subaddressThen, transferThen}
 use Rattle.step.specs.Verdict.{commandVerdict, frontVerdict, inhibitVerdict, scanVerdict, repeatVerdict, stopVerdict}
 use Rattle.step.specs.Verdict.{areNarrow, putVerdict, putLentVerdict}
+use Rattle.step.specs.Verdict.{placesOf, windowThen, withinVerdict}
 use Rattle.step.specs.Verdict.{commandStation, commandStationThen, widestOf}
 
 -- the test was passed, and what follows it is fine
@@ -185,3 +186,23 @@ put-lent-fields n a to limit b e =
     let s = most-fine limit (length b) ShortBuffer _ (r .2) in
     let t = unless-fine (areNarrow (take limit b)) OverwideWord Fine (s .1) in
     (p .0, p .1, p .2, q .0, q .1, r .0, r .1, s .0, t .0)
+
+-- ---- windows
+-- the bounds of a window
+pub window-fine : (lo hi : ℕ) (v : Verdict) → isFine (windowThen lo hi v) ≡ true → (lo ≤ 16777215) × (hi ≤ 16777215) × (lo ≤ hi) × (isFine v ≡ true)
+window-fine lo hi v e =
+    let p = most-fine lo 16777215 OverwideWord _ e in
+    let q = most-fine hi 16777215 OverwideWord _ (p .1) in
+    let r = most-fine lo hi CrossedWindow v (q .1) in
+    (p .0, q .0, r .0, r .1)
+
+-- the fields of a listing, and its buffer
+pub within-fields : (n to lo hi lent : ℕ) → isFine (withinVerdict n to lo hi lent) ≡ true
+    → (1 ≤ n) × (n ≤ 23) × (n ≤ to) × (to ≤ 23) × (lo ≤ hi) × (hi ≤ 16777215) × (placesOf n to ≤ lent)
+unfolding withinVerdict
+within-fields n to lo hi lent e =
+    let p = within-fine 1 n 23 NoSuchStation _ e in
+    let q = within-fine n to 23 CrossedRange _ (p .2) in
+    let r = window-fine lo hi _ (q .2) in
+    let s = most-fine (placesOf n to) lent ShortBuffer Fine (r .3) in
+    (p .0, p .1, q .0, q .1, r .2, r .1, s .0)

@@ -9,10 +9,10 @@ use lib.ListN.{length, take, drop, replicate, length-replicate}
 use Rattle.step.specs.declared.Refusal.{Refusal}
 use Rattle.step.specs.declared.Refusal.the-variants.{NoSuchStation, NoSuchSubaddress, CrossedRange, BadLength, ShortBuffer}
 use Rattle.step.specs.declared.Step.{Step}
-use Rattle.step.specs.declared.Step.the-variants.{Command, Front, Z, C, Inhibit, LookAtMe, Scan, Repeat, Stop, Put, PutLent, Processor}
+use Rattle.step.specs.declared.Step.the-variants.{Command, Front, Z, C, Inhibit, LookAtMe, Scan, Repeat, Stop, Put, PutLent, Processor, Within}
 use Rattle.step.specs.declared.Verdict.{Verdict}
 use Rattle.step.specs.declared.Verdict.the-variants.{Fine, Refuse}
-use Rattle.step.specs.Verdict.{within, unless, isFine, areNarrow, lentThen, offeredThen, scanVerdict, repeatVerdict, stopVerdict, putLentVerdict, shortVerdict, stepVerdict}
+use Rattle.step.specs.Verdict.{within, unless, isFine, areNarrow, lentThen, offeredThen, scanVerdict, repeatVerdict, stopVerdict, putLentVerdict, shortVerdict, withinVerdict, stepVerdict}
 
 -- ---- a put of lent words
 zeros-narrow : (limit k : ℕ) → areNarrow (take limit (replicate k 0)) ≡ true
@@ -52,6 +52,7 @@ judged-zeros (Repeat n a f limit tries) b k e = milder-same _ _ (ap (repeatVerdi
 judged-zeros (Stop n a f limit) b k e = milder-same _ _ (ap (stopVerdict n a f limit) (length-replicate {A = ℕ} k 0 ∙ sym e))
 judged-zeros (Put n a to limit w) b k e = milder-same _ _ refl
 judged-zeros (Processor t) b k e = milder-same _ _ (ap (shortVerdict t) (length-replicate {A = ℕ} k 0 ∙ sym e))
+judged-zeros (Within n to lo hi) b k e = milder-same _ _ (ap (withinVerdict n to lo hi) (length-replicate {A = ℕ} k 0 ∙ sym e))
 judged-zeros (PutLent n a to limit) b k e =
     milder-unless (within 1 n 23) NoSuchStation _ _
     (milder-unless (leb a 15) NoSuchSubaddress _ _ (milder-unless (within n to 23) CrossedRange _ _ (milder-unless (within 1 limit 512) BadLength _ _ last)))
@@ -88,4 +89,5 @@ judged-narrow (Repeat n a f limit tries) b k e h = ap (repeatVerdict n a f limit
 judged-narrow (Stop n a f limit) b k e h = ap (stopVerdict n a f limit) (e ∙ sym (length-replicate {A = ℕ} k 0))
 judged-narrow (Put n a to limit w) b k e h = refl
 judged-narrow (Processor t) b k e h = ap (shortVerdict t) (e ∙ sym (length-replicate {A = ℕ} k 0))
+judged-narrow (Within n to lo hi) b k e h = ap (withinVerdict n to lo hi) (e ∙ sym (length-replicate {A = ℕ} k 0))
 judged-narrow (PutLent n a to limit) b k e h = rw (length-replicate {A = ℕ} k 0, e, zeros-narrow limit k, narrow-take limit b h)

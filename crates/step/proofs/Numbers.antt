@@ -7,14 +7,14 @@ use native.Mathlib.Omega.{arith}
 use lib.ListN.{length, getD}
 use Rattle.step.specs.declared.Refusal.{Refusal}
 use Rattle.step.specs.declared.Refusal.the-variants.{Garbled, NoSuchStation, NoSuchSubaddress, NoSuchFunction, OverwideWord, CrossedRange, BadLength}
-use Rattle.step.specs.declared.Refusal.the-variants.{ShortBuffer, UnfitCrate, BadModule, OutOfOrder, CoveredStation, LongTransfer}
+use Rattle.step.specs.declared.Refusal.the-variants.{ShortBuffer, UnfitCrate, BadModule, OutOfOrder, CoveredStation, LongTransfer, CrossedWindow}
 use Rattle.step.specs.Refusals.{refusalNumber, refusals}
 
 -- the rows
 abbrev pub rows : List Refusal
 rows =
     Garbled ∷ NoSuchStation ∷ NoSuchSubaddress ∷ NoSuchFunction ∷ OverwideWord ∷ CrossedRange ∷ BadLength
-    ∷ ShortBuffer ∷ UnfitCrate ∷ BadModule ∷ OutOfOrder ∷ CoveredStation ∷ LongTransfer ∷ []
+    ∷ ShortBuffer ∷ UnfitCrate ∷ BadModule ∷ OutOfOrder ∷ CoveredStation ∷ LongTransfer ∷ CrossedWindow ∷ []
 
 -- there are no more and no fewer than are named
 pub rows-count : length rows ≡ refusals
@@ -44,6 +44,7 @@ numbered BadModule = record { low = omega arith; high = omega arith; back = refl
 numbered OutOfOrder = record { low = omega arith; high = omega arith; back = refl }
 numbered CoveredStation = record { low = omega arith; high = omega arith; back = refl }
 numbered LongTransfer = record { low = omega arith; high = omega arith; back = refl }
+numbered CrossedWindow = record { low = omega arith; high = omega arith; back = refl }
 
 -- a refusal's number leads back to it
 pub row-number : (q : Refusal) → row (refusalNumber q) ≡ q

@@ -9,7 +9,7 @@ use borrow.Author.Tests.{eqb-true, eq-eqb, leb-true, leb-false, le-leb, lt-leb}
 use lib.Dec.{leb}
 use lib.ListN.{length}
 use Rattle.step.specs.declared.Step.{Step}
-use Rattle.step.specs.declared.Step.the-variants.{Command, Front, Z, C, Inhibit, LookAtMe, Scan, Repeat, Stop, Put, PutLent, Processor}
+use Rattle.step.specs.declared.Step.the-variants.{Command, Front, Z, C, Inhibit, LookAtMe, Scan, Repeat, Stop, Put, PutLent, Processor, Within}
 use Rattle.step.specs.declared.Short.{Short}
 use Rattle.step.specs.declared.Short.the-variants.{ShortScan, ShortRepeat, ShortStop}
 use Rattle.step.specs.declared.Reading.{Reading}
@@ -20,8 +20,8 @@ use Rattle.step.specs.Verdict.{isFine, stepVerdict, verdictOf}
 use Rattle.step.specs.Touches.{reach, reachOf, touchesOf}
 use Rattle.step.specs.Entries.{generalOf}
 use Rattle.step.specs.Reached.{Reached, TouchesExact}
-use Rattle.step.specs.Reached.Reached.{by-command, by-front, by-repeat, by-stop, by-many, by-scan, by-put, by-put-lent, by-processor, by-z, by-c, by-i, by-look}
-use Rattle.step.proofs.Fine.{within-bounds, command-fine, front-fine, scan-fields, repeat-fine, stop-fine, put-fields, put-lent-fields}
+use Rattle.step.specs.Reached.Reached.{by-command, by-front, by-repeat, by-stop, by-many, by-scan, by-put, by-put-lent, by-processor, by-within, by-z, by-c, by-i, by-look}
+use Rattle.step.proofs.Fine.{within-bounds, command-fine, front-fine, scan-fields, repeat-fine, stop-fine, put-fields, put-lent-fields, within-fields}
 use Rattle.step.proofs.Entries.{short-fine}
 
 -- what the test finds is reached
@@ -46,6 +46,7 @@ reach-only (Processor (ShortRepeat n a f limit tries)) k lo hi e =
     by-processor {t = ShortRepeat n a f limit tries} (subst (Reached (Repeat n a f limit tries)) (eqb-true n k e) by-repeat)
 reach-only (Processor (ShortStop n a f limit)) k lo hi e =
     by-processor {t = ShortStop n a f limit} (subst (Reached (Stop n a f limit)) (eqb-true n k e) by-stop)
+reach-only (Within n to x y) k lo hi e = let h = within-bounds n k to e in by-within (h .0) (h .1)
 
 -- and what is reached is found
 pub reach-all : {s : Step} {k : ℕ} → Reached s k → reach s k ≡ true
@@ -60,6 +61,7 @@ reach-all (by-put-lent {n = n} {to = to} {k = k} lo hi) = rw (le-leb n k lo, le-
 reach-all (by-processor {t = ShortScan n a f to limit} h) = reach-all h
 reach-all (by-processor {t = ShortRepeat n a f limit tries} h) = reach-all h
 reach-all (by-processor {t = ShortStop n a f limit} h) = reach-all h
+reach-all (by-within {n = n} {to = to} {k = k} lo hi) = rw (le-leb n k lo, le-leb k to hi)
 reach-all (by-z lo hi) = refl
 reach-all (by-c lo hi) = refl
 reach-all (by-i lo hi) = refl
@@ -92,6 +94,7 @@ reaches-one (Processor t) b e = go t (short-fine t b e)
         let h = repeat-fine n a f limit tries (length b) h in
         (n, h .0, h .1, by-processor {t = ShortRepeat n a f limit tries} by-repeat)
     go (ShortStop n a f limit) h = let h = stop-fine n a f limit (length b) h in (n, h .0, h .1, by-processor {t = ShortStop n a f limit} by-stop)
+reaches-one (Within n to lo hi) b e = let h = within-fields n to lo hi (length b) e in (n, h .0, h .1, by-within {n = n} {k = n} (omega arith) (h .2))
 
 is-fine : (v : Verdict) → isFine v ≡ true → v ≡ Fine
 is-fine Fine e = refl

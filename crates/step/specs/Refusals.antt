@@ -2,7 +2,7 @@
 use Prim.Native.Nat.{ℕ}
 use Rattle.step.specs.declared.Refusal.{Refusal}
 use Rattle.step.specs.declared.Refusal.the-variants.{Garbled, NoSuchStation, NoSuchSubaddress, NoSuchFunction, OverwideWord, CrossedRange, BadLength}
-use Rattle.step.specs.declared.Refusal.the-variants.{ShortBuffer, UnfitCrate, BadModule, OutOfOrder, CoveredStation, LongTransfer}
+use Rattle.step.specs.declared.Refusal.the-variants.{ShortBuffer, UnfitCrate, BadModule, OutOfOrder, CoveredStation, LongTransfer, CrossedWindow}
 use Rattle.step.specs.declared.Verdict.{Verdict}
 use Rattle.step.specs.declared.Verdict.the-variants.{Fine, Refuse}
 
@@ -21,10 +21,11 @@ refusalNumber BadModule = 10
 refusalNumber OutOfOrder = 11
 refusalNumber CoveredStation = 12
 refusalNumber LongTransfer = 13
+refusalNumber CrossedWindow = 14
 
 -- how many refusals there are: their numbers are 1 to `refusals`
 abbrev pub refusals : ℕ
-refusals = 13
+refusals = 14
 
 -- the number of a verdict: 0 where nothing is sent back
 abbrev pub verdictNumber : Verdict → ℕ

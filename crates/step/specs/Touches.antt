@@ -4,7 +4,7 @@ use mathlib.Core.Bool.{Bool, true, false, cond, _&&_}
 use mathlib.Core.List.{List}
 use lib.Dec.{leb, eqb}
 use Rattle.step.specs.declared.Step.{Step}
-use Rattle.step.specs.declared.Step.the-variants.{Command, Front, Z, C, Inhibit, LookAtMe, Scan, Repeat, Stop, Put, PutLent, Processor}
+use Rattle.step.specs.declared.Step.the-variants.{Command, Front, Z, C, Inhibit, LookAtMe, Scan, Repeat, Stop, Put, PutLent, Processor, Within}
 use Rattle.step.specs.declared.Short.{Short}
 use Rattle.step.specs.declared.Short.the-variants.{ShortScan, ShortRepeat, ShortStop}
 use Rattle.step.specs.declared.Reading.{Reading}
@@ -17,7 +17,7 @@ shortReach (ShortScan n a f to limit) k = within n k to
 shortReach (ShortRepeat n a f limit tries) k = eqb n k
 shortReach (ShortStop n a f limit) k = eqb n k
 
--- the stations k of a step that is not refused: N, or all where the N of a command is above 23; in a scan or a put N to `to`; in Z, C, I and the Look-at-Me
+-- the stations k of a step that is not refused: N, or all where the N of a command is above 23; in a scan, a put or a listing N to `to`; in Z, C, I and the Look-at-Me
 -- reading all
 abbrev pub reach : Step → ℕ → Bool
 reach (Command n a f w) k = cond (leb n 23) (eqb n k) true
@@ -32,6 +32,7 @@ reach (Stop n a f limit) k = eqb n k
 reach (Put n a to limit w) k = within n k to
 reach (PutLent n a to limit) k = within n k to
 reach (Processor t) k = shortReach t k
+reach (Within n to lo hi) k = within n k to
 
 -- the same of a reading: one that is no step reaches none
 abbrev pub reachOf : Reading → ℕ → Bool

@@ -1,15 +1,15 @@
 -- When a step is refused (RULES 6.2 to 6.8, 6.13 to 6.18, 6.21, 6.22, 6.24, 6.25): each row of the table of refusals is said once, as a test with what follows it.
 -- The verdict on a step is then the list of its fields from left to right, then the buffer: its length, and in a put of lent words the words.
-use Prim.Native.Nat.{ℕ}
+use Prim.Native.Nat.{ℕ, _+_, _-_, _*_}
 use mathlib.Core.Bool.{Bool, true, false, cond, _&&_, _||_}
 use mathlib.Core.List.{List, [], _∷_}
 use lib.ListN.{length, take}
 use lib.Dec.{leb, eqb}
 use Rattle.kinds.specs.Cases.{isOneOf}
 use Rattle.step.specs.declared.Refusal.{Refusal}
-use Rattle.step.specs.declared.Refusal.the-variants.{NoSuchStation, NoSuchSubaddress, NoSuchFunction, OverwideWord, CrossedRange, BadLength, ShortBuffer, LongTransfer}
+use Rattle.step.specs.declared.Refusal.the-variants.{NoSuchStation, NoSuchSubaddress, NoSuchFunction, OverwideWord, CrossedRange, BadLength, ShortBuffer, LongTransfer, CrossedWindow}
 use Rattle.step.specs.declared.Step.{Step}
-use Rattle.step.specs.declared.Step.the-variants.{Command, Front, Z, C, Inhibit, LookAtMe, Scan, Repeat, Stop, Put, PutLent, Processor}
+use Rattle.step.specs.declared.Step.the-variants.{Command, Front, Z, C, Inhibit, LookAtMe, Scan, Repeat, Stop, Put, PutLent, Processor, Within}
 use Rattle.step.specs.declared.Short.{Short}
 use Rattle.step.specs.declared.Short.the-variants.{ShortScan, ShortRepeat, ShortStop}
 use Rattle.step.specs.declared.Reading.{Reading}
@@ -104,6 +104,22 @@ triesThen tries next = unless (within 1 tries 4096) BadLength next
 abbrev pub lentThen : ℕ → ℕ → Verdict → Verdict
 lentThen limit lent next = unless (leb limit lent) ShortBuffer next
 
+-- 14, crossed window: lo above hi
+abbrev pub crossedThen : (lo hi : ℕ) → Verdict → Verdict
+crossedThen lo hi next = unless (leb lo hi) CrossedWindow next
+
+-- a window from lo to hi: 5 for lo, 5 for hi, then 14
+abbrev pub windowThen : (lo hi : ℕ) → Verdict → Verdict
+windowThen lo hi next = wordThen lo (wordThen hi (crossedThen lo hi next))
+
+-- how many subaddresses the stations N to `to` have
+abbrev pub placesOf : (n to : ℕ) → ℕ
+placesOf n to = 16 * (to + 1 - n)
+
+-- 8, short buffer: fewer words lent than subaddresses are asked for
+abbrev pub roomThen : (n to lent : ℕ) → Verdict → Verdict
+roomThen n to lent next = unless (leb (placesOf n to) lent) ShortBuffer next
+
 -- op=naf n= a= f= w=
 unfoldable pub commandVerdict : ℕ → ℕ → ℕ → ℕ → Verdict
 commandVerdict n a f w = commandStationThen n (subaddressThen a (functionThen f (commandWordThen n a f w Fine)))
@@ -158,6 +174,10 @@ shortVerdict (ShortScan n a f to limit) lent = shortScanVerdict n a f to limit l
 shortVerdict (ShortRepeat n a f limit tries) lent = shortRepeatVerdict n a f limit tries lent
 shortVerdict (ShortStop n a f limit) lent = shortStopVerdict n a f limit lent
 
+-- op=within n= to= lo= hi=, with so many words lent
+unfoldable pub withinVerdict : (n to lo hi lent : ℕ) → Verdict
+withinVerdict n to lo hi lent = stationThen n (rangeThen n to (windowThen lo hi (roomThen n to lent Fine)))
+
 -- the verdict on a step that is lent this buffer; nothing is wrong with Z, C and the Look-at-Me reading
 abbrev pub stepVerdict : Step → List ℕ → Verdict
 stepVerdict (Command n a f w) buffer = commandVerdict n a f w
@@ -172,6 +192,7 @@ stepVerdict (Stop n a f limit) buffer = stopVerdict n a f limit (length buffer)
 stepVerdict (Put n a to limit w) buffer = putVerdict n a to limit w
 stepVerdict (PutLent n a to limit) buffer = putLentVerdict n a to limit buffer
 stepVerdict (Processor t) buffer = shortVerdict t (length buffer)
+stepVerdict (Within n to lo hi) buffer = withinVerdict n to lo hi (length buffer)
 
 -- the verdict on a reading: one that is no step has its own refusal
 abbrev pub verdictOf : Reading → List ℕ → Verdict

@@ -8,6 +8,7 @@ ghost use mathlib.Core.Path.{_≡_};
 ghost use Rattle.step.specs.Modules.{fitsKind, hasRoom, fitsModule, orderThen, coveredThen, moduleThen};
 ghost use Rattle.step.specs.Verdict.{within, transfer, unless, stationThen, subaddressThen, functionThen, transferThen, wordThen, inhibitThen};
 ghost use Rattle.step.specs.Verdict.{rangeThen, limitThen, longThen, triesThen, lentThen, areNarrow, offeredThen};
+ghost use Rattle.step.specs.Verdict.{placesOf, crossedThen, roomThen};
 ghost use Rattle.step.specs.Verdict.{commandStation, commandStationThen, widestOf, commandWordThen};
 ghost use lib.ListN.{take};
 
@@ -15,6 +16,9 @@ ghost use lib.ListN.{take};
 pub const LAST_STATION: u32 = 23;
 
 const LAST_SUBADDRESS: u32 = 15;
+
+// The subaddresses of a station.
+pub const SUBADDRESSES: u32 = 16;
 
 const LAST_FUNCTION: u32 = 31;
 
@@ -212,6 +216,28 @@ pub fn lent_then(limit: u32, lent: usize, rest: Verdict) -> Verdict
     ensures { λ r. ⌜ r ≡ lentThen limit lent rest ⌝ }
 {
     unless(limit as usize <= lent, Refusal::ShortBuffer, rest)
+}
+
+// How many subaddresses the stations n to `to` have: 16 each, none where `to` is below n.
+pub fn places(n: u32, to: u32) -> usize
+    ensures { λ r. ⌜ r ≡ placesOf n to ⌝ }
+{
+    if to < n {
+        return 0;
+    }
+    SUBADDRESSES as usize * (to as usize + 1 - n as usize)
+}
+
+pub fn crossed_then(lo: u32, hi: u32, rest: Verdict) -> Verdict
+    ensures { λ r. ⌜ r ≡ crossedThen lo hi rest ⌝ }
+{
+    unless(lo <= hi, Refusal::CrossedWindow, rest)
+}
+
+pub fn room_then(n: u32, to: u32, lent: usize, rest: Verdict) -> Verdict
+    ensures { λ r. ⌜ r ≡ roomThen n to lent rest ⌝ }
+{
+    unless(places(n, to) <= lent, Refusal::ShortBuffer, rest)
 }
 
 pub fn order_then(previous: u32, n: u32, rest: Verdict) -> Verdict

@@ -6,6 +6,7 @@ use fields::LAST_STATION;
 use fields::command_station_then;
 use fields::command_word_then;
 use fields::covered_then;
+use fields::crossed_then;
 use fields::function_then;
 use fields::inhibit_then;
 use fields::lent_then;
@@ -15,6 +16,7 @@ use fields::module_then;
 use fields::offered_then;
 use fields::order_then;
 use fields::range_then;
+use fields::room_then;
 use fields::station_then;
 use fields::subaddress_then;
 use fields::transfer_then;
@@ -26,7 +28,7 @@ ghost use mathlib.Core.Path.{_≡_};
 ghost use Rattle.step.specs.Modules.{moduleVerdict};
 ghost use Rattle.step.specs.Refusals.{refusalNumber};
 ghost use Rattle.step.specs.Touches.{shortReach, reach};
-ghost use Rattle.step.specs.Verdict.{commandVerdict, frontVerdict, inhibitVerdict, scanVerdict, repeatVerdict, stopVerdict, putVerdict, putLentVerdict, stepVerdict};
+ghost use Rattle.step.specs.Verdict.{commandVerdict, frontVerdict, inhibitVerdict, scanVerdict, repeatVerdict, stopVerdict, putVerdict, putLentVerdict, withinVerdict, stepVerdict};
 ghost use Rattle.step.specs.Verdict.{shortScanVerdict, shortRepeatVerdict, shortStopVerdict, shortVerdict};
 
 // What is sent back, in the order of the numbers, from 1 on.
@@ -44,6 +46,7 @@ pub enum Refusal {
     OutOfOrder,
     CoveredStation,
     LongTransfer,
+    CrossedWindow,
 }
 
 // The kinds of step, each with the fields of its line in a run file.
@@ -102,6 +105,13 @@ pub enum Step {
     },
     // A transfer at the trigger processor's entry. It has no line in a run file.
     Processor(Short),
+    // The registers of stations n to `to` whose values lie from lo to hi.
+    Within {
+        n: u32,
+        to: u32,
+        lo: u32,
+        hi: u32,
+    },
 }
 
 // The transfers at the trigger processor's entry, with the fields of the general entry's.
@@ -147,7 +157,7 @@ pub enum Verdict {
 }
 
 // How many refusals there are. Their numbers are 1 to REFUSALS.
-pub const REFUSALS: u32 = 13;
+pub const REFUSALS: u32 = 14;
 
 // The number that stands for a refusal.
 pub fn refusal_number(q: Refusal) -> u32
@@ -167,10 +177,11 @@ pub fn refusal_number(q: Refusal) -> u32
         Refusal::OutOfOrder => 11,
         Refusal::CoveredStation => 12,
         Refusal::LongTransfer => 13,
+        Refusal::CrossedWindow => 14,
     }
 }
 
-// The verdict on a step that is lent a buffer. Of the buffer its length counts, in a transfer and in a put of lent words; of its words the first `limit`, in that put alone.
+// The verdict on a step that is lent a buffer. Of the buffer its length counts, in a transfer, a put of lent words and a listing; of its words the first `limit`, in that put alone.
 pub fn judge(step: Step, buffer: &[u32]) -> Verdict
     ensures { λ r. ⌜ r ≡ stepVerdict step (now (buffer .entry)) ⌝ }
 {
@@ -193,6 +204,7 @@ pub fn judge(step: Step, buffer: &[u32]) -> Verdict
         Step::Put { n, a, to, limit, w } => judge_put(n, a, to, limit, w),
         Step::PutLent { n, a, to, limit } => judge_put_lent(n, a, to, limit, buffer),
         Step::Processor(short) => judge_short(short, buffer.len()),
+        Step::Within { n, to, lo, hi } => judge_within(n, to, lo, hi, buffer.len()),
     }
 }
 
@@ -219,6 +231,7 @@ pub fn reaches(step: Step, k: u32) -> bool
         Step::Put { n, a, to, limit, w } => within(n, k, to),
         Step::PutLent { n, a, to, limit } => within(n, k, to),
         Step::Processor(short) => short_reaches(short, k),
+        Step::Within { n, to, lo, hi } => within(n, k, to),
     }
 }
 
@@ -349,4 +362,12 @@ fn judge_short_stop(n: u32, a: u32, f: u32, limit: u32, lent: usize) -> Verdict
     let words = long_then(limit, lent_then(limit, lent, Verdict::Fine));
     let rest = limit_then(limit, words);
     station_then(n, subaddress_then(a, transfer_then(f, rest)))
+}
+
+fn judge_within(n: u32, to: u32, lo: u32, hi: u32, lent: usize) -> Verdict
+    ensures { λ r. ⌜ r ≡ withinVerdict n to lo hi lent ⌝ }
+{
+    let window = crossed_then(lo, hi, room_then(n, to, lent, Verdict::Fine));
+    let rest = word_then(lo, word_then(hi, window));
+    station_then(n, range_then(n, to, rest))
 }

@@ -1,9 +1,9 @@
-// Runs the 92 scenarios of the current folder, NN.run on the crate of NN.crate, and prints 'case=NN' before each sheet. A file that is not there is missing on
+// Runs the 94 scenarios of the current folder, NN.run on the crate of NN.crate, and prints 'case=NN' before each sheet. A file that is not there is missing on
 // purpose. Then runs, as `rehearse` does without arguments, run.txt on the crate of crate.txt.
 use libc::STDOUT_FILENO;
 
 // The number of the last scenario.
-const CASES: u8 = 92;
+const CASES: u8 = 94;
 
 // Rehearses one file on the crate of another.
 fn rehearse(crate_path: &[u8], run_path: &[u8]) {

@@ -26,16 +26,20 @@ returns-6 c = ap answerNumber (sym (c .enum-told5 .given .1))
 returns-7 : tie.Need-returns-7
 returns-7 c = ap answerNumber (sym (c .enum-told6 .given .1))
 
+returns-8 : tie.Need-returns-8
+returns-8 c = ap answerNumber (sym (c .enum-told7 .given .1))
+
 pub answer-number-spec : {M : Type 1} → statement M
 answer-number-spec =
     tie.close
     (tie.spec
     (λ c. search needs) (λ c κs. search needs) (λ c. search needs) (λ c. search needs) (λ c. search needs) (λ c. search needs) (λ c. search needs)
-    (λ c. search needs)
+    (λ c. search needs) (λ c. search needs)
     returns
     returns-2
     returns-3
     returns-4
     returns-5
     returns-6
-    returns-7)
+    returns-7
+    returns-8)

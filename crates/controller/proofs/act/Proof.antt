@@ -1,7 +1,7 @@
 -- `act` meets its contract: a step that is not refused has the fields that each call asks for (`..-good`), and each arm comes to the definition's (`..-acts`).
 use borrow.Author.Needs.{needs}
 use Rattle.controller.proofs.Arms.{command-good, front-good, inhibit-good, scan-good, repeat-good, stop-good, put-good, put-lent-good, processor-good, command-acts}
-use Rattle.controller.proofs.Arms.{front-acts, z-acts, c-acts, inhibit-acts, lam-acts, scan-acts, repeat-acts, stop-acts, put-acts, put-lent-acts, processor-acts}
+use Rattle.controller.proofs.Arms.{front-acts, z-acts, c-acts, inhibit-acts, lam-acts, scan-acts, repeat-acts, stop-acts, put-acts, put-lent-acts, processor-acts, within-good, within-acts}
 use Rattle.controller.proofs.act.Statement.{statement}
 use Rattle.controller.proofs.act.Tie as tie
 
@@ -61,6 +61,12 @@ act-short-requires c κs = (
   processor-good _ _ (c .before .before .before .before .before .before .before .pre .1) _ (c .before .before .before .step9 .given .1),
 )
 
+list-within-requires : tie.Need-list-within-requires
+list-within-requires c κs = (
+  (c .before .before .before .before .before .before .before .pre .0 .size),
+  within-good _ _ (c .before .before .before .before .before .before .before .pre .1) _ _ _ _ (c .before .before .before .step10 .given .1),
+)
+
 returns : tie.Need-returns
 returns c = command-acts _ _ _ _ _ _ _ _ _ (c .before .before .before .before .before .step .given .1)
     (c .before .before .send .ensures)
@@ -109,6 +115,10 @@ returns-12 c = let short = (c .before .before .before .before .act-short) in
     processor-acts _ _ _ _ _ _ _ (c .before .before .before .before .before .before .before .before .step9 .given .1) (short .ensures .0) (short .ensures .1 .0)
     (short .ensures .1 .1)
 
+returns-13 : tie.Need-returns-13
+returns-13 c = within-acts _ _ _ _ _ _ _ _ _ (c .before .before .before .before .before .before .step10 .given .1)
+    (c .before .before .list-within .ensures .0) (c .before .before .list-within .ensures .1)
+
 pub act-spec : {M : Type 1} → statement M
 act-spec =
     tie.close
@@ -132,6 +142,8 @@ act-spec =
     (λ c. search needs)
     act-short-requires
     (λ c. search needs)
+    list-within-requires
+    (λ c. search needs)
     returns
     (λ c. search needs)
     returns-2
@@ -154,4 +166,6 @@ act-spec =
     (λ c. search needs) (λ c. search needs)
     returns-11
     (λ c. search needs) (λ c. search needs)
-    returns-12)
+    returns-12
+    (λ c. search needs) (λ c. search needs)
+    returns-13)

@@ -62,8 +62,12 @@ unfolding readingOf kindsOf
 returns-14 c = rw (c .match .keys14)
 
 returns-15 : tie.Need-returns-15
+unfolding readingOf kindsOf
+returns-15 c = rw (c .match .keys15)
+
+returns-16 : tie.Need-returns-16
 unfolding kindsOf
-returns-15 c = reading-else _ (c .match .rest)
+returns-16 c = reading-else _ (c .match .rest)
 
 pub read-step-spec : {M : Type 1} → statement M
 read-step-spec =
@@ -84,4 +88,5 @@ read-step-spec =
     returns-12
     returns-13
     returns-14
-    returns-15)
+    returns-15
+    returns-16)

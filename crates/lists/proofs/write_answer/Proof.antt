@@ -30,13 +30,16 @@ returns-6 c = (c .before .before .put-four6 .ensures) ∙ ap answerWords (sym (c
 returns-7 : tie.Need-returns-7
 returns-7 c = (c .before .before .put-four7 .ensures) ∙ ap answerWords (sym (c .before .before .before .before .before .answer6 .given .1))
 
+returns-8 : tie.Need-returns-8
+returns-8 c = (c .before .before .put-four8 .ensures) ∙ ap answerWords (sym (c .before .before .before .before .before .answer7 .given .1))
+
 pub write-answer-spec : {M : Type 1} → statement M
 write-answer-spec =
     tie.close
     (tie.spec
     (λ c. search needs) (λ c κs. search needs) (λ c κs. search needs) (λ c. search needs) (λ c κs. search needs) (λ c. search needs)
     (λ c κs. search needs) (λ c. search needs) (λ c κs. search needs) (λ c. search needs) (λ c κs. search needs) (λ c. search needs)
-    (λ c κs. search needs) (λ c. search needs) (λ c κs. search needs) (λ c. search needs)
+    (λ c κs. search needs) (λ c. search needs) (λ c κs. search needs) (λ c. search needs) (λ c κs. search needs) (λ c. search needs)
     returns
     (λ c. search needs)
     returns-2
@@ -49,4 +52,6 @@ write-answer-spec =
     (λ c. search needs)
     returns-6
     (λ c. search needs)
-    returns-7)
+    returns-7
+    (λ c. search needs)
+    returns-8)

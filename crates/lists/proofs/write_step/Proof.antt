@@ -53,6 +53,10 @@ returns-12 : tie.Need-returns-12
 unfolding stepWords
 returns-12 c = (c .before .before .write-short .ensures) ∙ ap stepWords (sym (c .before .before .before .before .before .step9 .given .1))
 
+returns-13 : tie.Need-returns-13
+unfolding stepWords
+returns-13 c = (c .before .before .put-six12 .ensures) ∙ ap stepWords (sym (c .before .before .before .before .before .step10 .given .1))
+
 pub write-step-spec : {M : Type 1} → statement M
 write-step-spec =
     tie.close
@@ -61,7 +65,7 @@ write-step-spec =
     (λ c. search needs) (λ c κs. search needs) (λ c. search needs) (λ c κs. search needs) (λ c. search needs) (λ c κs. search needs)
     (λ c. search needs) (λ c κs. search needs) (λ c. search needs) (λ c κs. search needs) (λ c. search needs) (λ c κs. search needs)
     (λ c. search needs) (λ c κs. search needs) (λ c. search needs) (λ c κs. search needs) (λ c. search needs) (λ c κs. search needs)
-    (λ c. search needs)
+    (λ c. search needs) (λ c κs. search needs) (λ c. search needs)
     returns
     (λ c. search needs)
     returns-2
@@ -84,4 +88,6 @@ write-step-spec =
     (λ c. search needs)
     returns-11
     (λ c. search needs)
-    returns-12)
+    returns-12
+    (λ c. search needs)
+    returns-13)

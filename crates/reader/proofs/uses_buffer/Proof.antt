@@ -9,6 +9,18 @@ returns-2 c = rw ((c .before .before .before .before .reading .given .1), (c .be
 returns-3 : tie.Need-returns-3
 returns-3 c = rw ((c .before .before .before .before .reading .given .1), (c .before .step2 .given .1))
 
+returns-4 : tie.Need-returns-4
+returns-4 c = rw ((c .before .before .before .reading .given .1), (c .enum-told2 .given .1))
+
+returns-5 : tie.Need-returns-5
+returns-5 c = rw ((c .before .before .before .reading .given .1), (c .enum-told3 .given .1))
+
+returns-6 : tie.Need-returns-6
+returns-6 c = rw ((c .before .before .before .before .reading .given .1), (c .before .step3 .given .1))
+
+returns-7 : tie.Need-returns-7
+returns-7 c = rw ((c .before .before .before .reading .given .1), (c .enum-told4 .given .1))
+
 returns-8 : tie.Need-returns-8
 returns-8 c = rw ((c .before .before .before .before .reading .given .1), (c .before .step4 .given .1))
 
@@ -27,19 +39,26 @@ returns-12 c = rw ((c .before .before .before .before .reading .given .1), (c .b
 returns-13 : tie.Need-returns-13
 returns-13 c = rw ((c .before .before .before .before .reading .given .1), (c .before .step9 .given .1))
 
+returns-14 : tie.Need-returns-14
+returns-14 c = rw ((c .before .before .before .before .reading .given .1), (c .before .step10 .given .1))
+
 pub uses-buffer-spec : {M : Type 1} → statement M
 uses-buffer-spec =
     tie.close
     (tie.spec
     (λ c. search needs) (λ c. search needs) (λ c. search needs) (λ c. search needs) (λ c. search needs) (λ c. search needs) (λ c. search needs)
     (λ c. search needs) (λ c. search needs) (λ c. search needs) (λ c. search needs) (λ c. search needs) (λ c. search needs) (λ c. search needs)
-    (λ c. search needs)
+    (λ c. search needs) (λ c. search needs)
     returns-2
     returns-3
-    (λ c. search needs) (λ c. search needs) (λ c. search needs) (λ c. search needs)
+    returns-4
+    returns-5
+    returns-6
+    returns-7
     returns-8
     returns-9
     returns-10
     returns-11
     returns-12
-    returns-13)
+    returns-13
+    returns-14)

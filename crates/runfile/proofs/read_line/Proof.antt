@@ -8,7 +8,7 @@ use Rattle.runfile.specs.Lines.{Reads}
 use Rattle.runfile.specs.Read.{readLine}
 use Rattle.step.specs.declared.Reading.{Reading}
 use Rattle.runfile.proofs.Found.{either}
-use Rattle.runfile.proofs.Letters.{letter-n, letter-f, letter-z, letter-c, letter-i, letter-l, letter-s, letter-r, letter-p, no-letter, other-letter}
+use Rattle.runfile.proofs.Letters.{letter-n, letter-f, letter-z, letter-c, letter-i, letter-l, letter-s, letter-r, letter-p, letter-w, no-letter, other-letter}
 use Rattle.runfile.proofs.RunLines.{reads-of}
 use Rattle.runfile.proofs.read_line.Statement.{statement}
 use Rattle.runfile.proofs.read_line.Tie as tie
@@ -58,9 +58,13 @@ returns-10 c = let entry = (c .before .before .before .before .before .args) in
     both (entry .line .now) _ (c .read-put .ensures ∙ letter-p (entry .line .now) (c .before .match .keys9))
 
 returns-11 : tie.Need-returns-11
-returns-11 c = let entry = (c .before .before .before .before .args) in
+returns-11 c = let entry = (c .before .before .before .before .before .args) in
+    both (entry .line .now) _ (c .read-within .ensures ∙ letter-w (entry .line .now) (c .before .match .keys10))
+
+returns-12 : tie.Need-returns-12
+returns-12 c = let entry = (c .before .before .before .before .args) in
     let m = c .match .rest in
-    both (entry .line .now) _ (other-letter (entry .line .now) (m .0 .0 .0 .0 .0 .0 .0 .0 .1) (m .0 .0 .0 .0 .0 .0 .0 .1) (m .0 .0 .0 .0 .0 .0 .1)
+    both (entry .line .now) _ (other-letter (entry .line .now) (m .0 .0 .0 .0 .0 .0 .0 .0 .0 .1) (m .0 .0 .0 .0 .0 .0 .0 .0 .1) (m .0 .0 .0 .0 .0 .0 .0 .1) (m .0 .0 .0 .0 .0 .0 .1)
     (m .0 .0 .0 .0 .0 .1) (m .0 .0 .0 .0 .1) (m .0 .0 .0 .1) (m .0 .0 .1) (m .0 .1) (m .1))
 
 pub read-line-spec : {M : Type 1} → statement M
@@ -70,7 +74,7 @@ read-line-spec =
     returns
     (λ c. search needs) (λ c κs. search needs) (λ c κs. search needs) (λ c. search needs) (λ c κs. search needs) (λ c. search needs)
     (λ c κs. search needs) (λ c κs. search needs) (λ c. search needs) (λ c κs. search needs) (λ c κs. search needs) (λ c κs. search needs)
-    (λ c κs. search needs) (λ c κs. search needs) (λ c κs. search needs)
+    (λ c κs. search needs) (λ c κs. search needs) (λ c κs. search needs) (λ c κs. search needs)
     returns-2
     returns-3
     returns-4
@@ -80,4 +84,5 @@ read-line-spec =
     returns-8
     returns-9
     returns-10
-    returns-11)
+    returns-11
+    returns-12)

@@ -14,7 +14,10 @@ put-field-requires : tie.Need-put-field-requires
 put-field-requires c κs = field-room _ _ _ _ (omega arith)
 
 put-field-requires-2 : tie.Need-put-field-requires-2
-put-field-requires-2 c κs = omega (arith, length-ten (c .refusal-number .result))
+put-field-requires-2 c κs = field-room _ _ _ _ (omega arith)
+
+put-field-requires-3 : tie.Need-put-field-requires-3
+put-field-requires-3 c κs = omega (arith, length-ten (c .refusal-number .result))
 
 returns : tie.Need-returns
 returns c = of-answer (c .before .before .before .before .before .answer .given .1) (c .before .before .put-reply .ensures)
@@ -39,8 +42,12 @@ returns-6 c = of-answer (c .before .before .before .before .before .answer5 .giv
 
 returns-7 : tie.Need-returns-7
 unfolding body
-returns-7 c = of-answer (c .before .before .before .before .before .before .before .answer6 .given .1)
-    (of-text (ap (λ (n : ℕ). field " refused=" n) (c .before .before .before .refusal-number .ensures)) (c .before .before .put-field2 .ensures))
+returns-7 c = of-answer (c .before .before .before .before .before .before .answer6 .given .1) (c .before .before .put-field2 .ensures)
+
+returns-8 : tie.Need-returns-8
+unfolding body
+returns-8 c = of-answer (c .before .before .before .before .before .before .before .answer7 .given .1)
+    (of-text (ap (λ (n : ℕ). field " refused=" n) (c .before .before .before .refusal-number .ensures)) (c .before .before .put-field3 .ensures))
 
 pub put-body-spec : {M : Type 1} → statement M
 put-body-spec =
@@ -49,8 +56,10 @@ put-body-spec =
     (λ c. search needs) (λ c κs. search needs) (λ c. search needs) (λ c. search needs)
     put-field-requires
     (λ c. search needs) (λ c. search needs) (λ c κs. search needs) (λ c. search needs) (λ c κs. search needs) (λ c. search needs)
-    (λ c κs. search needs) (λ c. search needs) (λ c κs. search needs) (λ c. search needs) (λ c. search needs) (λ c κs. search needs)
+    (λ c κs. search needs) (λ c. search needs) (λ c κs. search needs) (λ c. search needs) (λ c. search needs)
     put-field-requires-2
+    (λ c. search needs) (λ c. search needs) (λ c κs. search needs)
+    put-field-requires-3
     (λ c. search needs)
     returns
     (λ c. search needs)
@@ -64,4 +73,6 @@ put-body-spec =
     (λ c. search needs)
     returns-6
     (λ c. search needs)
-    returns-7)
+    returns-7
+    (λ c. search needs)
+    returns-8)

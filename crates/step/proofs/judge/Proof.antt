@@ -1,5 +1,5 @@
 -- `step::judge` meets its contract: each arm of the `match` says which step was given, and the call in it gives that
--- step's verdict. The twelve arms stand in turn in the last lines, and then what each of them returns.
+-- step's verdict. The arms stand in turn in the last lines, and then what each of them returns.
 -- Assumes nothing.
 use borrow.Author.Needs.{needs}
 use Rattle.step.proofs.judge.Statement.{statement}
@@ -32,6 +32,9 @@ returns-11 c = rw (c .before .before .step8 .given .1) (c .judge-put-lent .ensur
 returns-12 : tie.Need-returns-12
 returns-12 c = rw (c .before .before .step9 .given .1) (c .judge-short .ensures)
 
+returns-13 : tie.Need-returns-13
+returns-13 c = rw (c .before .before .step10 .given .1) (c .judge-within .ensures)
+
 pub judge-spec : {M : Type 1} → statement M
 judge-spec =
     tie.close
@@ -48,4 +51,5 @@ judge-spec =
     (λ c. search needs) (λ c κs. search needs)
     (λ c. search needs) (λ c κs. search needs)
     (λ c. search needs) (λ c κs. search needs)
-    returns returns-2 (λ c. search needs) (λ c. search needs) returns-5 (λ c. search needs) returns-7 returns-8 returns-9 returns-10 returns-11 returns-12)
+    (λ c. search needs) (λ c κs. search needs)
+    returns returns-2 (λ c. search needs) (λ c. search needs) returns-5 (λ c. search needs) returns-7 returns-8 returns-9 returns-10 returns-11 returns-12 returns-13)

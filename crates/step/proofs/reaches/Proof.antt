@@ -1,4 +1,4 @@
--- `reaches` meets its contract: each arm of the `match` is a clause of `reach`. The twelve arms stand in turn in the last lines, and then what each of them
+-- `reaches` meets its contract: each arm of the `match` is a clause of `reach`. The arms stand in turn in the last lines, and then what each of them
 -- returns; a command's two returns come first.
 -- Assumes nothing.
 use borrow.Author.Tests.{le-leb, lt-leb}
@@ -33,6 +33,9 @@ returns-12 c = rw (c .before .before .step8 .given .1) (c .within3 .ensures)
 returns-13 : tie.Need-returns-13
 returns-13 c = rw (c .before .before .step9 .given .1) (c .short-reaches .ensures)
 
+returns-14 : tie.Need-returns-14
+returns-14 c = rw (c .before .before .step10 .given .1) (c .within4 .ensures)
+
 pub reaches-spec : {M : Type 1} → statement M
 reaches-spec =
     tie.close
@@ -49,4 +52,5 @@ reaches-spec =
     (λ c. search needs) (λ c κs. search needs)
     (λ c. search needs) (λ c κs. search needs)
     (λ c. search needs) (λ c κs. search needs)
-    returns returns-2 returns-3 (λ c. search needs) (λ c. search needs) (λ c. search needs) (λ c. search needs) returns-8 returns-9 returns-10 returns-11 returns-12 returns-13)
+    (λ c. search needs) (λ c κs. search needs)
+    returns returns-2 returns-3 (λ c. search needs) (λ c. search needs) (λ c. search needs) (λ c. search needs) returns-8 returns-9 returns-10 returns-11 returns-12 returns-13 returns-14)

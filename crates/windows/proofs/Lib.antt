@@ -1,0 +1,3 @@
+pub mod WithinLaws
+pub mod FoundLaws
+pub mod Locality
