@@ -3,53 +3,41 @@
 -- Assumes nothing.
 use Prim.Native.Nat.{ℕ, _+_, _-_, _*_, _/_, _%_, _≤_}
 use mathlib.Core.Path.{_≡_, refl, sym, ap, _∙_}
-use mathlib.Core.Bool.{Bool, true, false, _&&_}
-use mathlib.Core.List.{List, _++_}
+use mathlib.Core.Bool.{true, _&&_}
+use mathlib.Core.List.{List}
 use native.Mathlib.Omega.{arith}
 use borrow.Author.Tests.{le-leb}
-use lib.ListN.{length, take, drop}
+use lib.ListN.{length, getD, take, drop}
 use lib.Seq.{take-append-seam, drop-append-seam}
-use Rattle.blocks.specs.Blocks.{word}
 use Rattle.kinds.specs.Cases.{isOneOf}
 use Rattle.kinds.proofs.TestLaws.{both-fst, both-snd}
-use Rattle.dataway.specs.Stations.{replyOf}
 use Rattle.dataway.proofs.CoveredLaws.{covered-empty}
 use Rattle.station.specs.declared.Reply.{Reply}
 use Rattle.windows.specs.Within.{isInside, withinOf, listedIn}
 use Rattle.windows.specs.Found.{Found}
 use Rattle.windows.proofs.WithinLaws.{within-listing}
 use Rattle.windows.proofs.FoundLaws.{inside-found}
+use Rattle.windows.proofs.Locality.{within-alike}
 use Rattle.step.specs.Verdict.{within, withinVerdict, stepVerdict}
 use Rattle.step.proofs.Fine.{within-bounds, within-fields}
 use Rattle.step.specs.declared.Step.the-variants.{Within}
-use Rattle.step.specs.declared.Reading.the-variants.{Good}
 use Rattle.step.specs.declared.Verdict.{Verdict}
-use Rattle.step.specs.declared.Verdict.the-variants.{Fine}
+use Rattle.step.specs.declared.Verdict.the-variants.{Fine, Refuse}
 use Rattle.controller.specs.declared.Answer.{Answer}
-use Rattle.controller.specs.declared.Answer.the-variants.{Replied, Taken, Done, Looked, Transferred, Wrote, Listed, Refused}
-use Rattle.controller.specs.Steps.{order, Performed, judgedOf, doneOf, gives}
-use Rattle.controller.specs.Listings.{listing, ListingFinds, ListingDone, CoveredUnlisted}
+use Rattle.controller.specs.declared.Answer.the-variants.{Listed}
+use Rattle.controller.specs.Answers.{answerWords}
+use Rattle.controller.specs.Steps.{Performed, judgedOf, doneOf, gives}
+use Rattle.controller.specs.Listings.{listing, ListingFinds, ListingDone, ListingReads, CoveredUnlisted}
 use Rattle.controller.proofs.StepLaws.{step-done}
 use Rattle.controller.proofs.Sentences.{isRefused}
 use Rattle.controller.proofs.FinishedLaws.{Did, step-did, did-answer}
-
--- the count of an answer that has one
-abbrev countIn : Answer → ℕ
-countIn (Listed count) = count
-countIn (Replied p) = 0
-countIn (Taken v) = 0
-countIn Done = 0
-countIn (Looked p) = 0
-countIn (Transferred p) = 0
-countIn (Wrote p) = 0
-countIn (Refused q) = 0
 
 module _ (m : List ℕ) (n to lo hi : ℕ) (b : List ℕ) (count : ℕ) (h : gives m (listing n to lo hi b) .answer ≡ Listed count) where
   did : Did m (Within n to lo hi) b
   did = step-did m (Within n to lo hi) b (ap isRefused h)
 
   counted : length (withinOf m n to lo hi) ≡ count
-  counted = ap countIn (did-answer m (Within n to lo hi) b did h)
+  counted = ap (λ (a : Answer). getD (answerWords a) 1 0) (did-answer m (Within n to lo hi) b did h)
 
   buffer-left : gives m (listing n to lo hi b) .buffer ≡ listedIn (withinOf m n to lo hi) b
   buffer-left = ap (λ (p : Performed). p .out .buffer) (did .did)
@@ -122,6 +110,18 @@ listing-done = record {
       let q = within-fields n to lo hi (length b) (d .fine) in
       (d .fit, (q .0, q .2, q .3, q .4, q .5, omega (arith, q .2, q .6)));
 }
+
+-- ---- what it reads: refused or not, its fields and its buffer decide, and the list hangs on its stations' blocks (`within-alike`)
+pub listing-reads : ListingReads
+unfolding doneOf
+listing-reads m m′ n to lo hi b fit fit′ e =
+    ap (λ (p : Performed). p .out) (step-done m (listing n to lo hi b) fit)
+    ∙ judged (stepVerdict (Within n to lo hi) b)
+    ∙ sym (ap (λ (p : Performed). p .out) (step-done m′ (listing n to lo hi b) fit′))
+  where
+    judged : (v : Verdict) → judgedOf v m (Within n to lo hi) b .out ≡ judgedOf v m′ (Within n to lo hi) b .out
+    judged Fine = rw (within-alike m m′ n to lo hi e)
+    judged (Refuse q) = refl
 
 -- ---- covered stations: no command is accepted there
 pub covered-unlisted : CoveredUnlisted

@@ -4,7 +4,7 @@ use mathlib.Core.Path.{_≡_}
 use mathlib.Core.Bool.{true}
 use mathlib.Core.List.{List}
 use lib.ListN.{length, take, drop}
-use Rattle.blocks.specs.Blocks.{word}
+use Rattle.blocks.specs.Blocks.{word, blockOf}
 use Rattle.kinds.specs.Cases.{isOneOf}
 use Rattle.dataway.specs.Crate.{FitCrate}
 use Rattle.windows.specs.Within.{withinOf, Ascending}
@@ -46,6 +46,11 @@ pub record ListingDone : Type 0 where
       → stepOf m (listing n to lo hi b) ≡ listed (withinOf m n to lo hi) m b
   pub only : (m : List ℕ) (n to lo hi : ℕ) (b : List ℕ) (count : ℕ) → gives m (listing n to lo hi b) .answer ≡ Listed count
       → FitCrate m × InBounds n to lo hi (length b)
+
+-- IT READS THE BLOCKS OF N TO `to` AND NOTHING ELSE: neither I nor the rest of block 0. From two fit crates with these blocks alike it gives the same
+abbrev pub ListingReads : Type 0
+ListingReads = (m m′ : List ℕ) (n to lo hi : ℕ) (b : List ℕ) → FitCrate m → FitCrate m′ → ((i : ℕ) → n ≤ i → i ≤ to → blockOf m i ≡ blockOf m′ i)
+    → gives m (listing n to lo hi b) ≡ gives m′ (listing n to lo hi b)
 
 -- NO REGISTER OF A COVERED STATION is listed
 abbrev pub CoveredUnlisted : Type 0

@@ -1,4 +1,4 @@
--- When a step is refused (RULES 6.2 to 6.8, 6.13 to 6.18, 6.21, 6.22, 6.24, 6.25): each row of the table of refusals is said once, as a test with what follows it.
+-- When a step is refused (RULES 6.2 to 6.8, 6.13 to 6.18, 6.21, 6.22, 6.24 to 6.29): each row of the table of refusals is said once, as a test with what follows it.
 -- The verdict on a step is then the list of its fields from left to right, then the buffer: its length, and in a put of lent words the words.
 use Prim.Native.Nat.{ℕ, _+_, _-_, _*_}
 use mathlib.Core.Bool.{Bool, true, false, cond, _&&_, _||_}

@@ -3,13 +3,13 @@
 -- Assumes nothing.
 use Prim.Native.Nat.{ℕ, _+_, _*_, _/_, _%_, _≤_}
 use mathlib.Core.Path.{_≡_, refl, sym, ap, _∙_}
-use mathlib.Core.Bool.{Bool, true, false, _&&_}
+use mathlib.Core.Bool.{true, false, _&&_}
 use mathlib.Core.List.{List, [], _∷_}
 use mathlib.Core.Logic.{_⊎_, inl, inr, ⊎-elim}
 use native.Mathlib.Omega.{arith}
 use borrow.Author.Tests.{le-leb}
 use lib.Dec.{ltb, eqb}
-use Rattle.blocks.specs.Blocks.{blockOf, word}
+use Rattle.blocks.specs.Blocks.{blockOf}
 use Rattle.blocks.proofs.Blocks.{word-block}
 use Rattle.kinds.specs.Cases.{isOneOf}
 use Rattle.kinds.proofs.TestLaws.{both-fst, both-snd, decided, one-of-only, one-of-first}
@@ -22,12 +22,9 @@ use Rattle.dataway.specs.Stations.{replyOf}
 use Rattle.step.specs.Verdict.{within}
 use Rattle.step.proofs.Fine.{within-bounds}
 use Rattle.windows.specs.Within.{holder, isMetered, isThere, valueOf, isInside}
-use Rattle.windows.specs.Found.{Found, InsideFound}
+use Rattle.windows.specs.Found.{Metered, Found, InsideFound}
 
 -- the three kinds
-abbrev Metered : ℕ → Type 0
-Metered kind = (kind ≡ 1) ⊎ ((kind ≡ 3) ⊎ (kind ≡ 5))
-
 three : (kind : ℕ) → isOneOf kind (1 ∷ 3 ∷ 5 ∷ []) ≡ true → Metered kind
 three kind h =
     ⊎-elim inl

@@ -7,18 +7,18 @@ use mathlib.Core.Bool.{Bool, true, false, cond, _&&_, _||_, true≢false, or-fal
 use mathlib.Core.Logic.{_⊎_, inl, inr, ⊎-elim}
 use native.Mathlib.Numerals.{add-one}
 use native.Mathlib.Omega.{arith}
-use borrow.Author.Tests.{lt-ltb, le-leb, lt-leb, le-ltb, eq-eqb, ne-eqb, leb-true, leb-false, ltb-true, ltb-false, eqb-true}
+use borrow.Author.Tests.{lt-ltb, le-leb, lt-leb, le-ltb, eq-eqb, ne-eqb, leb-true, leb-false, ltb-true, ltb-false}
 use lib.Dec.{leb, ltb, eqb}
-use lib.ListN.{length, getD, take, drop, set, length-append, length-drop, length-set}
+use lib.ListN.{length, getD, drop, set, length-append, length-drop}
 use lib.Seq.{set-at, drop-cons}
-use Rattle.blocks.specs.Blocks.{blockOf, word}
 use Rattle.blocks.proofs.Blocks.{word-block}
 use Rattle.word24.specs.Word.{asBit}
 use Rattle.kinds.specs.Cases.{isOneOf}
-use Rattle.kinds.proofs.TestLaws.{decided, alike, both-false}
+use Rattle.kinds.proofs.TestLaws.{decided, alike, both-false, one-of-first}
 use Rattle.step.specs.Verdict.{within, placesOf}
 use Rattle.windows.specs.Within.{holder, isMetered, isThere, valueOf, isInside, picked, withinOf, listedIn, Above, Ascending}
-use Rattle.windows.specs.Within.{Listing, WithinListing, OnlyListing}
+use Rattle.windows.specs.Within.{WithinListing, OnlyListing}
+use Rattle.windows.specs.Found.{Metered}
 
 -- ---- what the code reads
 module _ (m : List ℕ) (p at : ℕ) (e : at ≡ 32 * (p / 16)) where
@@ -32,15 +32,15 @@ module _ (m : List ℕ) (p at : ℕ) (e : at ≡ 32 * (p / 16)) where
   unfolding isThere isMetered
   metered kind k t = rw (k, t)
 
-  by-kind : (getD m (at + 0) 0 ≡ 1) ⊎ ((getD m (at + 0) 0 ≡ 3) ⊎ (getD m (at + 0) 0 ≡ 5)) → isThere m p ≡ ltb (p % 16) (getD (holder m p) 1 0)
+  by-kind : Metered (getD m (at + 0) 0) → isThere m p ≡ ltb (p % 16) (getD (holder m p) 1 0)
   by-kind (inl h) = metered 1 (sym kind-at ∙ h) refl
   by-kind (inr (inl h)) = metered 3 (sym kind-at ∙ h) refl
   by-kind (inr (inr h)) = metered 5 (sym kind-at ∙ h) refl
 
-  pub there-some : (getD m (at + 0) 0 ≡ 1) ⊎ ((getD m (at + 0) 0 ≡ 3) ⊎ (getD m (at + 0) 0 ≡ 5)) → ltb (p % 16) (getD m (at + 1) 0) ≡ isThere m p
+  pub there-some : Metered (getD m (at + 0) 0) → ltb (p % 16) (getD m (at + 1) 0) ≡ isThere m p
   there-some k = ap (ltb (p % 16)) count-at ∙ sym (by-kind k)
 
-  pub there-none : ((getD m (at + 0) 0 ≡ 1) ⊎ ((getD m (at + 0) 0 ≡ 3) ⊎ (getD m (at + 0) 0 ≡ 5)) → ⊥) → false ≡ isThere m p
+  pub there-none : (Metered (getD m (at + 0) 0) → ⊥) → false ≡ isThere m p
   unfolding isThere isMetered
   there-none n =
       simp (
@@ -248,8 +248,7 @@ above-not x (y ∷ ys) a = rw (ne-eqb x y (λ e. omega arith), above-not x ys (a
 
 above-has : (x : ℕ) (ys : List ℕ) (p : ℕ) → Above x ys → isOneOf p ys ≡ true → x < p
 above-has x [] p a h = absurd (true≢false (sym h))
-above-has x (y ∷ ys) p a h =
-    ⊎-elim (λ (e : eqb p y ≡ true). omega (arith, eqb-true p y e)) (λ (e : eqb p y ≡ false). above-has x ys p (a .1) (rw e at h)) (decided (eqb p y))
+above-has x (y ∷ ys) p a h = ⊎-elim (λ (e : p ≡ y). omega arith) (above-has x ys p (a .1)) (one-of-first p y ys h)
 
 same-head : (x y : ℕ) (xs ys : List ℕ) → Above x xs → Above y ys → ((p : ℕ) → isOneOf p (x ∷ xs) ≡ isOneOf p (y ∷ ys)) → x ≡ y
 same-head x y xs ys a b h = ⊎-elim (λ e. e) (λ n. absurd (lost n)) (alike x y)

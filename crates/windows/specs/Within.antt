@@ -1,6 +1,6 @@
--- Registers inside a window (02, L9). The number of a register is its station times 16 plus its subaddress, so that ascending numbers are stations ascending
--- and then subaddresses.
-use Prim.Native.Nat.{ℕ, zero, suc, _+_, _*_, _/_, _%_, _<_, _≤_}
+-- Registers inside a window (RULES 4.24, 4.25). The number of a register is its station times 16 plus its subaddress, so that ascending numbers are stations
+-- ascending and then subaddresses.
+use Prim.Native.Nat.{ℕ, zero, suc, _+_, _*_, _/_, _%_, _<_}
 use mathlib.Core.Path.{_≡_}
 use mathlib.Core.List.{List, [], _∷_, _++_}
 use mathlib.Core.Bool.{Bool, cond, _&&_}
