@@ -100,6 +100,13 @@ one-of-first x y zs h = go (eqb x y) (eqb-true x y) h
     go true f h = inl (f refl)
     go false f h = inr h
 
+-- a number of three is one of them
+pub one-of-three : (x i j k : ℕ) → isOneOf x (i ∷ j ∷ k ∷ []) ≡ true → (x ≡ i) ⊎ ((x ≡ j) ⊎ (x ≡ k))
+one-of-three x i j k h =
+    ⊎-elim inl
+    (λ g. inr (⊎-elim inl (λ f. inr (one-of-only x k f)) (one-of-first x j (k ∷ []) g)))
+    (one-of-first x i (j ∷ k ∷ []) h)
+
 -- a number of the list is none that the list lacks
 pub one-of-apart : (x y : ℕ) (zs : List ℕ) → isOneOf x zs ≡ true → isOneOf y zs ≡ false → x ≡ y → ⊥
 one-of-apart x y zs h g e = true≢false (sym h ∙ ap (λ (n : ℕ). isOneOf n zs) e ∙ g)

@@ -1,13 +1,14 @@
 -- What a fine verdict says of a step's fields: each test of the list was passed, so each field is within its bounds.
 use mathlib.Core.Path.{_≡_, refl}
-use mathlib.Core.Bool.{Bool, true, false, false≢true, cond, _&&_, _||_, and-eq-true-iff}
-use mathlib.Core.Logic.{_⊎_, inl, inr}
+use mathlib.Core.Bool.{Bool, true, false, false≢true, cond, _&&_, _||_, and-eq-true-iff, or-assoc, or-false}
+use mathlib.Core.Logic.{_⊎_}
 use mathlib.Core.List.{List, [], _∷_}
 use Prim.Native.Nat.{ℕ, zero, suc, _≤_}
 use native.Mathlib.Omega.{arith}
-use borrow.Author.Tests.{leb-true, eqb-true}
+use borrow.Author.Tests.{leb-true}
 use lib.Dec.{leb, eqb}
 use lib.ListN.{length, take, getD}
+use Rattle.kinds.proofs.TestLaws.{one-of-three}
 use Rattle.step.specs.declared.Refusal.{Refusal}
 use Rattle.step.specs.declared.Refusal.the-variants.{NoSuchStation, NoSuchSubaddress, NoSuchFunction, OverwideWord, CrossedRange, BadLength, ShortBuffer, CrossedWindow}
 use Rattle.step.specs.declared.Verdict.{Verdict}
@@ -31,13 +32,7 @@ within-bounds low x high e =
 
 -- the functions of a transfer are 0, 2 and 3
 pub transfer-one-of : (f : ℕ) → transfer f ≡ true → (f ≡ 0) ⊎ ((f ≡ 2) ⊎ (f ≡ 3))
-transfer-one-of f e = go (eqb f 0) (eqb f 2) (eqb f 3) (eqb-true f 0) (eqb-true f 2) (eqb-true f 3) e
-  where
-    go : (s t u : Bool) → (s ≡ true → f ≡ 0) → (t ≡ true → f ≡ 2) → (u ≡ true → f ≡ 3) → (s || t || u) ≡ true → (f ≡ 0) ⊎ ((f ≡ 2) ⊎ (f ≡ 3))
-    go true t u p q r e = inl (p refl)
-    go false true u p q r e = inr (inl (q refl))
-    go false false true p q r e = inr (inr (r refl))
-    go false false false p q r e = absurd (false≢true e)
+transfer-one-of f e = one-of-three f 0 2 3 (rw (or-false (eqb f 3), ← or-assoc (eqb f 0) (eqb f 2) (eqb f 3)) e)
 
 -- a row with an upper bound
 most-fine : (x high : ℕ) (q : Refusal) (v : Verdict) → isFine (unless (leb x high) q v) ≡ true → (x ≤ high) × (isFine v ≡ true)

@@ -3,7 +3,7 @@
 use Prim.Native.Nat.{ℕ, zero, suc, _+_, _-_, _*_, _/_, _%_, _<_, _≤_}
 use mathlib.Core.Path.{_≡_, refl, sym, ap, ap₂, _∙_}
 use mathlib.Core.List.{List, [], _∷_, _++_, append-assoc, append-nil}
-use mathlib.Core.Bool.{Bool, true, false, cond, _&&_, _||_, true≢false, or-false}
+use mathlib.Core.Bool.{Bool, true, false, cond, _&&_, _||_, true≢false, or-assoc, or-true, or-false}
 use mathlib.Core.Logic.{_⊎_, inl, inr, ⊎-elim}
 use native.Mathlib.Numerals.{add-one}
 use native.Mathlib.Omega.{arith}
@@ -16,9 +16,9 @@ use Rattle.word24.specs.Word.{asBit}
 use Rattle.kinds.specs.Cases.{isOneOf}
 use Rattle.kinds.proofs.TestLaws.{decided, alike, both-false, one-of-first}
 use Rattle.step.specs.Verdict.{within, placesOf}
-use Rattle.windows.specs.Within.{holder, isMetered, isThere, valueOf, isInside, picked, withinOf, listedIn, Above, Ascending}
+use Rattle.windows.specs.Within.{holder, listedKinds, isThere, valueOf, isInside, picked, withinOf, listedIn, Above, Ascending}
 use Rattle.windows.specs.Within.{WithinListing, OnlyListing}
-use Rattle.windows.specs.Found.{Metered}
+use Rattle.windows.specs.Found.{ListedKind}
 
 -- ---- what the code reads
 module _ (m : List ℕ) (p at : ℕ) (e : at ≡ 32 * (p / 16)) where
@@ -28,20 +28,20 @@ module _ (m : List ℕ) (p at : ℕ) (e : at ≡ 32 * (p / 16)) where
   count-at : getD m (at + 1) 0 ≡ getD (holder m p) 1 0
   count-at = rw e (sym (word-block m (p / 16) 1 (omega arith)))
 
-  metered : (kind : ℕ) → getD (holder m p) 0 0 ≡ kind → isOneOf kind (1 ∷ 3 ∷ 5 ∷ []) ≡ true → isThere m p ≡ ltb (p % 16) (getD (holder m p) 1 0)
-  unfolding isThere isMetered
-  metered kind k t = rw (k, t)
+  of-kind : (kind : ℕ) → getD (holder m p) 0 0 ≡ kind → isOneOf kind listedKinds ≡ true → isThere m p ≡ ltb (p % 16) (getD (holder m p) 1 0)
+  unfolding isThere
+  of-kind kind k t = rw (k, t)
 
-  by-kind : Metered (getD m (at + 0) 0) → isThere m p ≡ ltb (p % 16) (getD (holder m p) 1 0)
-  by-kind (inl h) = metered 1 (sym kind-at ∙ h) refl
-  by-kind (inr (inl h)) = metered 3 (sym kind-at ∙ h) refl
-  by-kind (inr (inr h)) = metered 5 (sym kind-at ∙ h) refl
+  by-kind : ListedKind (getD m (at + 0) 0) → isThere m p ≡ ltb (p % 16) (getD (holder m p) 1 0)
+  by-kind (inl h) = of-kind 1 (sym kind-at ∙ h) refl
+  by-kind (inr (inl h)) = of-kind 3 (sym kind-at ∙ h) refl
+  by-kind (inr (inr h)) = of-kind 5 (sym kind-at ∙ h) refl
 
-  pub there-some : Metered (getD m (at + 0) 0) → ltb (p % 16) (getD m (at + 1) 0) ≡ isThere m p
+  pub there-some : ListedKind (getD m (at + 0) 0) → ltb (p % 16) (getD m (at + 1) 0) ≡ isThere m p
   there-some k = ap (ltb (p % 16)) count-at ∙ sym (by-kind k)
 
-  pub there-none : (Metered (getD m (at + 0) 0) → ⊥) → false ≡ isThere m p
-  unfolding isThere isMetered
+  pub there-none : (ListedKind (getD m (at + 0) 0) → ⊥) → false ≡ isThere m p
+  unfolding isThere
   there-none n =
       simp (
         ne-eqb (getD (holder m p) 0 0) 1 (λ h. n (inl (kind-at ∙ h))),
@@ -133,15 +133,7 @@ listed-long t from k b₀ b h e =
 -- ---- what the list is: exactly the registers inside the window, each once, ascending
 one-of-append : (x : ℕ) (ys zs : List ℕ) → isOneOf x (ys ++ zs) ≡ isOneOf x ys || isOneOf x zs
 one-of-append x [] zs = refl
-one-of-append x (y ∷ ys) zs = or-assoc (eqb x y) (isOneOf x ys) (isOneOf x zs) (isOneOf x (ys ++ zs)) (one-of-append x ys zs)
-  where
-    or-assoc : (a b c d : Bool) → d ≡ b || c → a || d ≡ (a || b) || c
-    or-assoc true b c d e = refl
-    or-assoc false b c d e = e
-
-or-true : (b : Bool) → b || true ≡ true
-or-true true = refl
-or-true false = refl
+one-of-append x (y ∷ ys) zs = rw (one-of-append x ys zs, or-assoc (eqb x y) (isOneOf x ys) (isOneOf x zs))
 
 and-alike : (a b c : Bool) → (a ≡ true → b ≡ c) → a && b ≡ a && c
 and-alike true b c f = f refl

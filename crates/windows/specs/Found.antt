@@ -9,12 +9,12 @@ use Rattle.dataway.specs.Stations.{replyOf}
 use Rattle.windows.specs.Within.{isInside}
 
 -- the kind of a scaler, an input register or an up-down counter
-abbrev pub Metered : ℕ → Type 0
-Metered kind = (kind ≡ 1) ⊎ ((kind ≡ 3) ⊎ (kind ≡ 5))
+abbrev pub ListedKind : ℕ → Type 0
+ListedKind kind = (kind ≡ 1) ⊎ ((kind ≡ 3) ⊎ (kind ≡ 5))
 
 -- station N has a module of such a kind, and F0 at A reads a word from lo to hi there, with Q = 1
 pub record Found (m : List ℕ) (lo hi n a : ℕ) : Type 0 where
-  pub kind : Metered (word m n 0)
+  pub kind : ListedKind (word m n 0)
   pub answers : replyOf m n a 0 0 .q ≡ 1
   pub low : lo ≤ replyOf m n a 0 0 .r
   pub high : replyOf m n a 0 0 .r ≤ hi

@@ -15,13 +15,13 @@ use Rattle.step.specs.Verdict.{within, placesOf}
 abbrev pub holder : List ℕ → ℕ → List ℕ
 holder m p = blockOf m (p / 16)
 
--- kinds 1, 3 and 5: scaler, input register, up-down counter
-unfoldable pub isMetered : List ℕ → Bool
-isMetered b = isOneOf (kindOf b) (1 ∷ 3 ∷ 5 ∷ [])
+-- the kinds whose registers are listed: scaler, input register, up-down counter
+abbrev pub listedKinds : List ℕ
+listedKinds = 1 ∷ 3 ∷ 5 ∷ []
 
--- register p is there: it is below r of a station of those kinds
+-- register p is there: it is below r of a module of those kinds
 unfoldable pub isThere : List ℕ → ℕ → Bool
-isThere m p = isMetered (holder m p) && ltb (p % 16) (countOf (holder m p))
+isThere m p = isOneOf (kindOf (holder m p)) listedKinds && ltb (p % 16) (countOf (holder m p))
 
 -- its unsigned 24-bit value
 unfoldable pub valueOf : List ℕ → ℕ → ℕ
