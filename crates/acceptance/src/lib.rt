@@ -1,9 +1,11 @@
 // The acceptance classes: which subaddresses a kind of module accepts for a function, as a table of 192 entries that can be laid beside a data sheet.
+#![tactic(auto)]
+
 ghost use Rattle.std.specs.Prelude.{◌≡◌, ◌<◌};
 ghost use Rattle.acceptance.specs.Classes.{class_number, digit_of, class_of, is_in, Spans};
 
 // The classes, in 02's order.
-#[derive(Drop)]
+#[derive(Clone, Copy)]
 pub enum Class {
     None,
     BelowR,
@@ -74,7 +76,7 @@ pub fn class_of(kind: u32, f: u32) -> Class
 }
 
 // Subaddresses from `first` up to `past`, which is not among them.
-#[derive(Drop)]
+#[derive(Clone, Copy)]
 pub struct Span {
     pub first: u32,
     pub past: u32,

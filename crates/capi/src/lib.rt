@@ -1,5 +1,7 @@
 // THE C LIBRARY: the open calls for programs in C, Fortran or Python, on their own arrays of words and bytes. A slice is a pointer and a length in C,
 // and `include/pagontxu.h` declares the functions so. Each returns 0, or the number of its refusal.
+#![tactic(auto)]
+
 ghost use Rattle.std.specs.Prelude.{◌≡◌, ◌++◌, length, drop, ◌≤◌};
 ghost use Rattle.controller.specs.Answers.{answer_words};
 ghost use Rattle.controller.specs.Steps.{order, performed, step_of};

@@ -1,4 +1,6 @@
 // Prints the table of acceptance classes: a line `kind= f= class=` for each kind from 0 to 5 and each function from 0 to 31. `stdout` was worked out by hand (table.md).
+#![tactic(auto)]
+
 ghost use Rattle.std.specs.Prelude.{◌+◌, ◌≤◌, ◌<◌, length};
 ghost use Rattle.text.specs.Paste.{Put};
 ghost use Rattle.classes.specs.Table.{line_of, kind_text, table_text};

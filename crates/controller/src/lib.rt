@@ -1,4 +1,6 @@
 // The crate controller: one step, judged and then done on a fit crate.
+#![tactic(auto)]
+
 ghost use Rattle.std.specs.Prelude.{◌≡◌, true, length};
 ghost use Rattle.dataway.specs.Crate.{FitCrate};
 ghost use Rattle.transfer.specs.Cycle.{transfer_of, buffer_after};
@@ -15,7 +17,7 @@ use step::{Reading, Refusal, Short, Step, Verdict};
 use transfer::Transfer;
 
 // What a step answers.
-#[derive(Drop)]
+#[derive(Clone, Copy)]
 pub enum Answer {
     // A command: X, Q and R.
     Replied(Reply),

@@ -7,7 +7,7 @@ use blocks::{BLOCK_WORDS, STATIONS};
 use station::block::{MASK, STATUS};
 
 // L, how many of its bits are 1, and the lowest requesting station, or 0.
-#[derive(Drop)]
+#[derive(Clone, Copy)]
 pub struct LamReading {
     pub l: u32,
     pub count: u32,

@@ -1,5 +1,7 @@
 // The Dataway of one crate, over the lent crate memory: what reaches a station of it, many, or the controller, the common controls, the Look-at-Me reading, and the
 // test whether the memory is fit.
+#![tactic(auto)]
+
 ghost use Rattle.std.specs.Prelude.{◌≡◌, ◌≤◌, length};
 ghost use Rattle.blocks.specs.Blocks.{word, with_block};
 ghost use Rattle.kinds.specs.Table.{FitModule};

@@ -1,5 +1,7 @@
 // Judges steps and crate lines at the edges of each field, and with several faults at once, where the leftmost counts.
 // Writes a line for each: 0 where nothing is wrong, else the number of the refusal.
+#![tactic(auto)]
+
 use kinds::Module;
 use libc::STDOUT_FILENO;
 use step::{Refusal, Short, Step, Verdict};

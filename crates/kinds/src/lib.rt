@@ -1,9 +1,11 @@
 // The kinds of module, and the table of what a module of each kind may have. Definitions of tests and cases, which many tables are said with, stand here too.
+#![tactic(auto)]
+
 ghost use Rattle.std.specs.Prelude.{◌≡◌, ◌<◌};
 ghost use Rattle.kinds.specs.Table.{in_table, sources_with, last_head_of, most_fill_of, most_covered_of};
 
 // A module: its station, its kind, its register count and its width in stations.
-#[derive(Drop)]
+#[derive(Clone, Copy)]
 pub struct Module {
     pub n: u32,
     pub kind: u32,

@@ -1,5 +1,7 @@
 // Bytes cut into lines: where the next line ends, and the first bytes of a line kept in a buffer. What is done with a line is its reader's: the language has no
 // function that takes a function, so each reader has its own loop over these.
+#![tactic(auto)]
+
 ghost use Rattle.std.specs.Prelude.{◌≡◌, [], ◌++◌, true, cond, ◌+◌, ◌-◌, ◌≤◌, ◌<◌, min, ltb, length, take, drop};
 ghost use Rattle.lines.specs.Lines.{cut, has_lf, NextLf};
 

@@ -1,6 +1,8 @@
 // Calls the open calls with what no file can lend: crates that are not fit, too few words, buffers whose words show what is left alone, buffer memories with
 // any head; and the reader with more lines than it reads. Standard input says what is lent and called, line by line; cases.md says what each case shows and why
 // its numbers are these.
+#![tactic(auto)]
+
 ghost use Rattle.std.specs.Prelude.{◌≡◌, ◌≤◌, length};
 ghost use Rattle.reader.specs.Reading.{Held};
 

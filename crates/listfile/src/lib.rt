@@ -1,4 +1,6 @@
 // Reads a run file, in parts of any length, and stores its steps as words, six words a step.
+#![tactic(auto)]
+
 ghost use Rattle.std.specs.Prelude.{◌≡◌, List, ℕ, ◌≤◌, ◌<◌, length};
 ghost use Rattle.lines.specs.Lines.{NoLf};
 ghost use Rattle.lines.specs.Cutting.{ended, feed, closed};
@@ -10,7 +12,7 @@ use lists::STEP_WORDS;
 use step::Reading;
 
 // Where the reading stands.
-#[derive(Drop)]
+#[derive(Clone, Copy)]
 pub struct ListReader {
     // Bytes of the present line in the line buffer.
     pub fill: usize,

@@ -1,4 +1,6 @@
 // A list of steps lent as words, on a fit crate: one step of it, and the whole of it.
+#![tactic(auto)]
+
 ghost use Rattle.std.specs.Prelude.{◌≡◌, [], ◌∷◌, length, ◌+◌, ◌*◌, ◌≤◌};
 ghost use Rattle.dataway.specs.Crate.{FitCrate};
 ghost use Rattle.controller.specs.Answers.{answer_words};

@@ -1,5 +1,7 @@
 // Compares the pairs of run files of the current folder, NN.regrouped with NN.run, and prints 'case=NN' before each report. A file that is not there is missing on
 // purpose.
+#![tactic(auto)]
+
 ghost use Rattle.std.specs.Prelude.{◌≡◌, ◌≤◌, length};
 
 use libc::STDOUT_FILENO;

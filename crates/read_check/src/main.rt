@@ -1,5 +1,7 @@
 // Reads each line of standard input as a line of a run file and as a line of a crate file, and writes what it is: its number, the step
 // or 1, the module or 1. README.md says how the stored lines are grouped.
+#![tactic(auto)]
+
 ghost use Rattle.std.specs.Prelude.{◌≤◌, length};
 
 use kinds::Module;

@@ -1,4 +1,6 @@
 // Reads the crate file and the run file, in parts of any length, and prints into a lent buffer.
+#![tactic(auto)]
+
 ghost use Rattle.std.specs.Prelude.{◌≡◌, List, ℕ, ◌+◌, ◌≤◌, ◌<◌, length, take};
 ghost use Rattle.reader.specs.Reading.{rehearsing, next, module_line, run_line, state_of, after_module, after_step, uses_buffer, Held, Ready};
 ghost use Rattle.lines.specs.Lines.{NoLf, NextLf};
@@ -13,7 +15,7 @@ use sheet::{STEP_ROOM, put_crate_refusal, put_step};
 use step::{ModuleLine, Reading, Refusal, Step, Verdict};
 
 // Where the reading stands.
-#[derive(Drop)]
+#[derive(Clone, Copy)]
 pub struct Reader {
     // Bytes of the present line in the line buffer.
     pub fill: usize,
@@ -249,7 +251,7 @@ fn take_line(
 }
 
 // How far a part of a file was taken.
-#[derive(Drop)]
+#[derive(Clone, Copy)]
 pub struct Progress {
     pub next: usize,
     pub reader: Reader,

@@ -1,5 +1,7 @@
 // Is regrouped.txt a lawful regrouping of run.txt, both in the current folder, or of two files that are named the second one of the first? Prints a line for
 // neighbouring stations and for each refusal number at which they part, and the verdict.
+#![tactic(auto)]
+
 use listfile::LIST_WORDS;
 
 fn main() {

@@ -1,5 +1,7 @@
 // Two run files, read, compared and reported on standard output. Where one of them is not read whole, or has lines and all of them are refused, there is no
 // verdict.
+#![tactic(auto)]
+
 ghost use Rattle.std.specs.Prelude.{◌≡◌, ◌≤◌, length, take};
 ghost use Rattle.text.specs.Paste.{Put};
 ghost use Rattle.verdict.specs.Counted.{count, refused_in};
@@ -39,7 +41,7 @@ fn say_refused(path: &[u8], many: u32, all: u32) {
 }
 
 // How many lines of a file are refused, of how many; heard unless it has lines and all of them are refused.
-#[derive(Drop)]
+#[derive(Clone, Copy)]
 struct Lines {
     refused: u32,
     all: u32,

@@ -1,5 +1,7 @@
 // THE CALLS OPEN TO USERS. None asks for anything: any contents of a lent crate memory, line, list or buffer get a result or a refusal, and a refusal
 // changes nothing in them.
+#![tactic(auto)]
+
 pub mod crate_file;
 pub mod list;
 pub mod pair;

@@ -9,7 +9,7 @@ use crate::list::run_list;
 use step::Verdict;
 
 // The verdicts on the two runs.
-#[derive(Drop)]
+#[derive(Clone, Copy)]
 pub struct Pair {
     pub first: Verdict,
     pub second: Verdict,

@@ -1,4 +1,6 @@
 // Rehearses the run of run.txt on the crate of crate.txt, both in the current folder, or of two files that are named, and prints the sheet.
+#![tactic(auto)]
+
 fn main() {
     let mut text = io::large_buffer();
     let mut line = [0u8; 81];

@@ -1,5 +1,7 @@
 // What is printed of two lists of steps that are compared: a line for each run of neighbouring stations that part alike, a line for each refusal number that parts, and
 // last the verdict, put into a lent buffer.
+#![tactic(auto)]
+
 ghost use Rattle.std.specs.Prelude.{◌≡◌, ◌+◌, ◌*◌, ◌≤◌, length};
 ghost use Rattle.text.specs.Text.{field};
 ghost use Rattle.text.specs.Paste.{Put};
@@ -15,7 +17,7 @@ use verdict::{Comparison, LAST_WATCH};
 const LAST_STATION: u32 = 23;
 
 // Where a watch parts: nowhere, or at the line of the first list that was due, the line of the second that stands there, and the line where the due one stands instead.
-#[derive(Drop)]
+#[derive(Clone, Copy)]
 pub enum Parting {
     Nowhere,
     At {
@@ -26,7 +28,7 @@ pub enum Parting {
 }
 
 // The last run so far, which may go on: its first station, how its stations part, and the place in the buffer for its line.
-#[derive(Drop)]
+#[derive(Clone, Copy)]
 pub struct LastRun {
     pub low: u32,
     pub parting: Parting,

@@ -6,14 +6,14 @@ ghost use Rattle.runfile.specs.Read.{digit, open-ended, digits_from, number, rea
 use step::{Reading, Refusal, Step};
 
 // A number read at a place of a line, and the place after it; or none there.
-#[derive(Drop)]
+#[derive(Clone, Copy)]
 pub enum Number {
     Value { value: u32, next: usize },
     Missing,
 }
 
 // The fields n, a and f with which a command and a transfer begin, and the place after them; or not there.
-#[derive(Drop)]
+#[derive(Clone, Copy)]
 pub enum Head {
     Fields { n: u32, a: u32, f: u32, next: usize },
     NoHead,

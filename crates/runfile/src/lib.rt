@@ -1,6 +1,8 @@
 // Reads a line of a run file or of a crate file, given without its LF. Any bytes of any length get an answer: what the line says, or
 // the refusal that it is garbled. Each call says twice what it answers: by the reader's definition, which callers rewrite with, and by
 // the text of a step or of a module, which is what the paper says.
+#![tactic(auto)]
+
 mod bare;
 mod commands;
 pub mod fields;

@@ -1,4 +1,6 @@
 // The lines of one step, and of a crate line that is refused, put into a lent buffer. Each call says what all of the buffer holds after it.
+#![tactic(auto)]
+
 ghost use Rattle.std.specs.Prelude.{◌≡◌, ◌++◌, ◌+◌, ◌*◌, ◌≤◌, length, take};
 ghost use Rattle.text.specs.Paste.{Put};
 ghost use Rattle.text.specs.Text.{bytes, decimal};

@@ -6,7 +6,7 @@ use crate::say;
 use libc::STDERR_FILENO;
 
 // The names of two files, as so many bytes of two buffers; ok where the program was started on them.
-#[derive(Drop)]
+#[derive(Clone, Copy)]
 pub struct Files {
     pub ok: bool,
     pub first: usize,

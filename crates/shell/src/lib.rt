@@ -1,5 +1,7 @@
 // Opens, reads and writes: hands the bytes of two files to `reader`, and what it printed to standard output. What cannot be had is said on standard error,
 // a line each.
+#![tactic(auto)]
+
 mod arguments;
 mod steps;
 
@@ -43,7 +45,7 @@ fn open(path: &[u8], missing: &[u8], unread: &[u8]) -> i32 {
 }
 
 // What a read gave: so many bytes, and none at the end of a file. ok where it did not fail.
-#[derive(Drop)]
+#[derive(Clone, Copy)]
 struct Got {
     ok: bool,
     count: usize,
@@ -68,7 +70,7 @@ fn read_some(fd: i32, path: &[u8], text: &mut [u8], unread: &[u8]) -> Got
 }
 
 // What was written: ok where it was all of it, and its length in the output buffer.
-#[derive(Drop)]
+#[derive(Clone, Copy)]
 pub struct Told {
     pub ok: bool,
     pub at: usize,
@@ -89,7 +91,7 @@ pub fn write_out(out: &[u8], at: usize, what: &[u8]) -> Told
 }
 
 // What a turn of the work left: ok where all that was printed could be written.
-#[derive(Drop)]
+#[derive(Clone, Copy)]
 pub struct Turn {
     pub ok: bool,
     pub reader: Reader,
@@ -162,7 +164,7 @@ fn goes_on(path: &[u8], text: &[u8], before: Reader, after: Reader) -> bool {
 }
 
 // What one read left: more where the file may have bytes that count.
-#[derive(Drop)]
+#[derive(Clone, Copy)]
 pub struct Part {
     pub more: bool,
     pub ok: bool,

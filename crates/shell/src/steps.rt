@@ -8,7 +8,7 @@ use lines::has_past;
 use listfile::ListReader;
 
 // What one read left: more where the file may have bytes that count, whole where none was lost.
-#[derive(Drop)]
+#[derive(Clone, Copy)]
 pub struct ListPart {
     pub more: bool,
     pub whole: bool,
@@ -55,7 +55,7 @@ fn take_part(
 }
 
 // What reading a file left: whole where none of it was lost.
-#[derive(Drop)]
+#[derive(Clone, Copy)]
 pub struct ListTurn {
     pub whole: bool,
     pub reader: ListReader,
@@ -101,7 +101,7 @@ fn take_parts(
 }
 
 // What came of a run file: whole where all of its lines are stored, and how many they are.
-#[derive(Drop)]
+#[derive(Clone, Copy)]
 pub struct Listing {
     pub whole: bool,
     pub count: usize,

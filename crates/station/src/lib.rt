@@ -1,4 +1,6 @@
 // One station of the crate: the 32 functions, over the station's lent block of 32 words.
+#![tactic(auto)]
+
 ghost use Rattle.std.specs.Prelude.{◌≡◌, ◌<◌, ◌^◌};
 ghost use Rattle.acceptance.specs.Classes.{class_of, admits};
 ghost use Rattle.station.specs.Accepted.{Accepts, ReadFunction};
@@ -17,7 +19,7 @@ use block::{COUNT, KIND, sources};
 use group1::{read, read_and_clear, read_complement};
 
 // The answer to a command: Command Accepted, Response and read word.
-#[derive(Drop)]
+#[derive(Clone, Copy)]
 pub struct Reply {
     pub x: u32,
     pub q: u32,

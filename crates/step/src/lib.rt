@@ -1,5 +1,7 @@
 // A step of a run, the reading of a crate line, and whether they may be done: fields from left to right, then the buffer; and the stations that a step reaches.
 // The types come first, then the judging; each row of the table of refusals is a function of `fields`.
+#![tactic(auto)]
+
 pub mod fields;
 
 ghost use Rattle.std.specs.Prelude.{◌≡◌};
@@ -18,7 +20,7 @@ use fields::{
 use kinds::Module;
 
 // What is sent back, in the order of the numbers, from 1 on.
-#[derive(Drop)]
+#[derive(Clone, Copy)]
 pub enum Refusal {
     Garbled,
     NoSuchStation,
@@ -37,7 +39,7 @@ pub enum Refusal {
 }
 
 // The kinds of step, each with the fields of its line in a run file.
-#[derive(Drop)]
+#[derive(Clone, Copy)]
 pub enum Step {
     Command {
         n: u32,
@@ -103,7 +105,7 @@ pub enum Step {
 }
 
 // The transfers at the trigger processor's entry, with the fields of the general entry's.
-#[derive(Drop)]
+#[derive(Clone, Copy)]
 pub enum Short {
     ShortScan {
         n: u32,
@@ -128,21 +130,21 @@ pub enum Short {
 }
 
 // The reading of a run line, or of a step lent as words.
-#[derive(Drop)]
+#[derive(Clone, Copy)]
 pub enum Reading {
     Good(Step),
     Bad(Refusal),
 }
 
 // The reading of a crate line.
-#[derive(Drop)]
+#[derive(Clone, Copy)]
 pub enum ModuleLine {
     Holds(Module),
     Bad(Refusal),
 }
 
 // Whether a step or a module may be had, and what is sent back where it may not.
-#[derive(Drop)]
+#[derive(Clone, Copy)]
 pub enum Verdict {
     Fine,
     Refuse(Refusal),

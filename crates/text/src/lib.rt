@@ -1,4 +1,6 @@
 // Numbers and fields as text, put into a lent buffer. Each call says what all of the buffer holds after it.
+#![tactic(auto)]
+
 ghost use Rattle.std.specs.Prelude.{◌≡◌, ◌++◌, ◌+◌, ◌^◌, ◌≤◌, ◌<◌, length};
 ghost use Rattle.text.specs.Digits.{digits, unpacked, zeros};
 ghost use Rattle.text.specs.Paste.{pasted, Put, Behind};

@@ -1,5 +1,7 @@
 // Puts numbers, bytes and fields into a buffer of dots. Writes all of the buffer each time, so that the dots show what was left alone,
 // and then the next place.
+#![tactic(auto)]
+
 ghost use Rattle.std.specs.Prelude.{◌+◌, ◌≤◌, length};
 
 use libc::STDOUT_FILENO;

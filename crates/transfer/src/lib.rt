@@ -1,13 +1,15 @@
 // Block transfers over the lent crate memory, a module each. A cycle is one command. Scan, Repeat and Stop read into a lent buffer: a word is stored when Q = 1,
 // and buffer words past those stored keep their contents. Put writes words that are offered, and leaves them as they are. Repeat and Stop end where X is 0;
 // Scan and Put do not look at it.
+#![tactic(auto)]
+
 pub mod put;
 pub mod repeat;
 pub mod scan;
 pub mod stop;
 
 // What a transfer answers: how it ended, how many words it stored (a put: used up), how many cycles it made.
-#[derive(Drop)]
+#[derive(Clone, Copy)]
 pub struct Transfer {
     pub end: u32,
     pub words: u32,

@@ -1,5 +1,7 @@
 // Runs the 94 scenarios of the current folder, NN.run on the crate of NN.crate, and prints 'case=NN' before each sheet. A file that is not there is missing on
 // purpose. Then runs, as `rehearse` does without arguments, run.txt on the crate of crate.txt.
+#![tactic(auto)]
+
 use libc::STDOUT_FILENO;
 
 // The number of the last scenario.

@@ -1,6 +1,8 @@
 // Is the second list of steps a lawful rearrangement of the first, and if not, where do they part? The lists are lent as words, six words a step.
 // A list is looked at watch by watch: watch k from 1 to 23 is station k and sees the steps that touch it, and watch 23 + r sees the steps that are
 // refused with r. The open calls come last; what stands before them is lent a buffer of 512 zeros, with which a step is judged best.
+#![tactic(auto)]
+
 ghost use Rattle.std.specs.Prelude.{◌≡◌, [], ◌∷◌, ◌≤◌, ◌<◌, length};
 ghost use Rattle.step.specs.declared.Reading.{Reading};
 ghost use Rattle.verdict.specs.Watches.{only, Watch};
@@ -17,7 +19,7 @@ const LAST_STATION: u32 = 23;
 pub const LAST_WATCH: u32 = LAST_STATION + REFUSALS;
 
 // Parted: the watch, and the places in the first list and in the second where it parts.
-#[derive(Drop)]
+#[derive(Clone, Copy)]
 pub enum Comparison {
     Same,
     Parted {

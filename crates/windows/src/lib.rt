@@ -1,5 +1,7 @@
 // Registers inside a window, listed by number; `sheets` flags those of many windows in one pass. The number of a register is its station times 16 plus its
 // subaddress, so that ascending numbers are stations ascending and then subaddresses; the words of its block are found from it.
+#![tactic(auto)]
+
 ghost use Rattle.std.specs.Prelude.{◌≡◌, cond, length, set, ◌+◌, ◌*◌, ◌/◌, ◌≤◌, ◌<◌};
 ghost use Rattle.word24.specs.Word.{as_bit};
 ghost use Rattle.step.specs.Verdict.{places_of};

@@ -19,7 +19,7 @@ use step::{Refusal, Verdict};
 const MOST_WINDOWS: usize = 64;
 
 // What the call answers: how many registers were read, or why none was.
-#[derive(Drop)]
+#[derive(Clone, Copy)]
 pub enum Flagging {
     Flagged(u32),
     Refused(Refusal),
@@ -52,7 +52,7 @@ fn flag_word(sheet: &[u32], v: u32) -> u64
 }
 
 // The flags of a register, and how many registers were read for them: 1, or 0 where it is not there.
-#[derive(Drop)]
+#[derive(Clone, Copy)]
 struct Flags {
     word: u64,
     reads: u32,

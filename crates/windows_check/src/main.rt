@@ -1,4 +1,6 @@
 // Flags sheets of windows over the stations of a lent crate. cases.md says what each case shows and why its numbers are these.
+#![tactic(auto)]
+
 ghost use Rattle.std.specs.Prelude.{◌*◌, ◌+◌, ◌≤◌, ◌<◌, length};
 
 use libc::STDOUT_FILENO;

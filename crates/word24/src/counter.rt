@@ -14,7 +14,7 @@ const HIGHEST: i32 = 8388607;
 const MODULUS: i32 = 16777216;
 
 // What an event leaves: the register's new word, and whether its status bit is set.
-#[derive(Drop)]
+#[derive(Clone, Copy)]
 pub struct Counted {
     pub value: u32,
     pub flag: bool,

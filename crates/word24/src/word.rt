@@ -10,7 +10,7 @@ const MODULUS: u64 = 16777216;
 const ALL_ONES: u32 = 16777215;
 
 // A sum brought back to 24 bits, and whether it had to be.
-#[derive(Drop)]
+#[derive(Clone, Copy)]
 pub struct Sum24 {
     pub value: u32,
     pub carry: bool,
