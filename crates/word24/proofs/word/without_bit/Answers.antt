@@ -7,14 +7,9 @@ use borrow.Author.Rules.{rules}
 use lib.Bits.{bit_and}
 use lib.Pow.{pow-lt}
 use Rattle.word24.proofs.BitLaws.{one_bit, and-not}
-use Rattle.word24.proofs.word.without_bit.Statement.{statement}
-use Rattle.word24.proofs.word.without_bit.Tie as tie
+use Rattle.word24.proofs.word.without_bit.Goals as goal
 
-returns : tie.Need-returns
-returns c =
-    let x = c.args.x in
+pub returns : goal.returns
+returns c = let x = c.args.x in
     let a = c.args.a in
     ap (λ (n : ℕ). bit_and x (2 ^ 32 - 1 - n)) (one_bit 32 a c.requires) ∙ and-not 32 x (2 ^ a) c.ranges.x.fits (pow-lt c.requires)
-
-pub without_bit_spec : {M : Type 1} → statement M
-without_bit_spec = tie.close (tie.spec (λ c. search rules) returns)

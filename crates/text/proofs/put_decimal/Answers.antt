@@ -6,18 +6,13 @@ use borrow.Author.Rules.{rules}
 use Rattle.text.specs.Digits.{digits}
 use Rattle.text.specs.Paste.{pasted}
 use Rattle.text.proofs.Decimal.{decimal-digits}
-use Rattle.text.proofs.put_decimal.Statement.{statement}
-use Rattle.text.proofs.put_decimal.Tie as tie
+use Rattle.text.proofs.put_decimal.Goals as goal
 
-returns : tie.Need-returns
-returns c =
-    let a = c.before.before.before.before.before.before.args in
-    let k = c.before.before.before.before.places.ensures in
+pub returns : goal.returns
+returns c = let a = c.args in
+    let k = c.places-k.ensures in
     record {
-      buffer = c.before.before.spell.ensures
+      buffer = c.spell.ensures
           ∙ ap (pasted a.out.now a.at) (ap (λ (k : ℕ). digits k a.n) k ∙ sym (decimal-digits a.n (omega arith)));
       place = ap (λ (k : ℕ). a.at + k) k;
     }
-
-pub put_decimal_spec : {M : Type 1} → statement M
-put_decimal_spec = tie.close (tie.spec (λ c κs. search rules) (λ c κs. search rules) (λ c. search rules) (λ c. search rules) returns)

@@ -2,11 +2,7 @@
 -- second are x less the first.
 -- Assumes nothing.
 use Rattle.word24.proofs.BitLaws.{and-not}
-use Rattle.word24.proofs.word.clear_bits.Statement.{statement}
-use Rattle.word24.proofs.word.clear_bits.Tie as tie
+use Rattle.word24.proofs.word.clear_bits.Goals as goal
 
-returns : tie.Need-returns
+pub returns : goal.returns
 returns c = and-not 32 c.args.x c.args.w c.ranges.x.fits c.ranges.w.fits
-
-pub clear_bits_spec : {M : Type 1} → statement M
-clear_bits_spec = tie.close (tie.spec returns)
