@@ -1,0 +1,15 @@
+-- `l_pattern` meets its contract. The loop's invariant: l is the pattern of stations 1 to n. The next station's bit is put above it (`pattern-or`).
+use Prim.Native.Nat.{ℕ, ◌-◌, ◌*◌, ◌%◌, ◌^◌, ◌≤◌}
+use mathlib.Core.Path.{◌≡◌, sym, ap, ap₂, ◌∙◌}
+use native.Mathlib.Omega.{arith}
+use borrow.Author.Rules.{rules}
+use lib.Bits.{bit_or}
+use Rattle.dataway.proofs.LamLaws.{pattern-zero, pattern-or}
+use Rattle.dataway.specs.Lam.{pattern_to}
+use Rattle.dataway.proofs.lam.l_pattern.Given as goal
+
+abbrev pub invariant-loop-n : goal.invariant-loop-n
+invariant-loop-n l = (l.n ≤ 23) × (l.l ≡ pattern_to l.n l.memory)
+
+abbrev pub decreases-loop-n : goal.decreases-loop-n
+decreases-loop-n l = 23 - l.n
