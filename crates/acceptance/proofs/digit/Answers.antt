@@ -1,6 +1,5 @@
 -- `digit` meets its contract: the table is the list of the rule's 192 digits, which is computed; each arm of its match reads the row of its kind.
 use native.Mathlib.Omega.{arith}
-use borrow.Author.Rules.{rules}
 use Rattle.acceptance.proofs.Entries.{digit-first, digit-in, last-kind}
 use Rattle.acceptance.specs.Classes.{class_of}
 use Rattle.acceptance.proofs.digit.Goals as goal

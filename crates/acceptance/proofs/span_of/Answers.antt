@@ -1,6 +1,5 @@
 -- `span_of` meets its contract: the span of each arm has the subaddresses of its class.
 use mathlib.Core.Path.{◌∙◌}
-use borrow.Author.Rules.{rules}
 use Rattle.acceptance.proofs.AdmitLaws.{all_in, none_at_all, one_in, two_in, three-in, or-none}
 use Rattle.acceptance.specs.Classes.{admits}
 use Rattle.acceptance.proofs.span_of.Goals as goal

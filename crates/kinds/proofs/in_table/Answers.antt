@@ -1,6 +1,5 @@
 -- `in_table` meets its contract: its tests are those of the definition, in their order.
 use borrow.Author.Tests.{lt-ltb, le-ltb, le-leb, lt-leb}
-use borrow.Author.Rules.{rules}
 use Rattle.kinds.specs.Table.{in_table}
 use Rattle.kinds.proofs.TableLaws.{table-last}
 use Rattle.kinds.proofs.in_table.Goals as goal

@@ -1,10 +1,8 @@
 -- `find_lf` meets its contract: no byte before the present one is LF.
-use lib.ListN.{length, get_or}
-use borrow.Author.Count.{below_more}
 use native.Mathlib.Omega.{arith}
-use Prim.Native.Nat.{ℕ, ◌+◌, ◌-◌, ◌≤◌}
-use mathlib.Core.Path.{◌≡◌, sym, ◌∙◌}
-use Rattle.lines.proofs.LfLaws.{Clear, clear_none, clear-join, clear-part, next-from}
+use Prim.Native.Nat.{◌+◌}
+use mathlib.Core.Path.{sym, ◌∙◌}
+use Rattle.lines.proofs.LfLaws.{clear-join, clear-part}
 use Rattle.lines.proofs.find_lf.Goals as goal
 
 pub loop-i-preserved : goal.loop-i-preserved

@@ -1,10 +1,7 @@
 -- `find_lf` meets its contract: no byte before the present one is LF.
-use lib.ListN.{length, get_or}
-use borrow.Author.Count.{below_more}
-use native.Mathlib.Omega.{arith}
-use Prim.Native.Nat.{ℕ, ◌+◌, ◌-◌, ◌≤◌}
-use mathlib.Core.Path.{◌≡◌, sym, ◌∙◌}
-use Rattle.lines.proofs.LfLaws.{Clear, clear_none, clear-join, clear-part, next-from}
+use lib.ListN.{length}
+use Prim.Native.Nat.{◌-◌, ◌≤◌}
+use Rattle.lines.proofs.LfLaws.{Clear}
 use Rattle.lines.proofs.find_lf.Given as goal
 
 abbrev pub invariant-loop-i : goal.invariant-loop-i

@@ -1,7 +1,6 @@
 -- `first_lf` meets its contract: of the bytes that have the first LF a half has it, and the last half is one byte.
 use native.Mathlib.Omega.{arith}
 use Rattle.lines.proofs.LfLaws.{Among, clear_none, among-half, among_one}
-use borrow.Author.Rules.{rules}
 use Rattle.lines.proofs.first_lf.Goals as goal
 
 pub returns : goal.returns

@@ -1,11 +1,10 @@
 -- `has_lf` meets its contract: an LF is found exactly where the bytes before the present one have one.
 use lib.Dec.{eqb}
-use lib.ListN.{get_or, take, drop}
-use mathlib.Core.Path.{◌≡◌, refl, sym, ap, ◌∙◌}
+use lib.ListN.{get_or}
+use mathlib.Core.Path.{sym, ap, ◌∙◌}
 use mathlib.Core.Bool.{Bool, ◌||◌}
-use Prim.Native.Nat.{ℕ, ◌+◌, ◌-◌, ◌≤◌}
+use Prim.Native.Nat.{◌+◌}
 use native.Mathlib.Omega.{arith}
-use Rattle.lines.specs.Lines.{has_lf}
 use Rattle.lines.proofs.LfLaws.{has_more}
 use Rattle.lines.proofs.has_lf.Goals as goal
 

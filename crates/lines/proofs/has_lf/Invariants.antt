@@ -1,12 +1,8 @@
 -- `has_lf` meets its contract: an LF is found exactly where the bytes before the present one have one.
-use lib.Dec.{eqb}
-use lib.ListN.{get_or, take, drop}
-use mathlib.Core.Path.{◌≡◌, refl, sym, ap, ◌∙◌}
-use mathlib.Core.Bool.{Bool, ◌||◌}
-use Prim.Native.Nat.{ℕ, ◌+◌, ◌-◌, ◌≤◌}
-use native.Mathlib.Omega.{arith}
+use lib.ListN.{take, drop}
+use mathlib.Core.Path.{◌≡◌}
+use Prim.Native.Nat.{◌-◌, ◌≤◌}
 use Rattle.lines.specs.Lines.{has_lf}
-use Rattle.lines.proofs.LfLaws.{has_more}
 use Rattle.lines.proofs.has_lf.Given as goal
 
 abbrev pub invariant-loop-k : goal.invariant-loop-k

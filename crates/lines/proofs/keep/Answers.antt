@@ -5,7 +5,6 @@ use mathlib.Core.Path.{◌≡◌, sym, ap, ◌∙◌}
 use lib.ListN.{length, take}
 use lib.Seq.{length-take-le}
 use Rattle.lines.proofs.Parts.{put_front, filled}
-use borrow.Author.Rules.{rules}
 use Rattle.lines.proofs.keep.Goals as goal
 
 pub returns : goal.returns

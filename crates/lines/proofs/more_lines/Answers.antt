@@ -1,9 +1,7 @@
 -- `more_lines` meets its contract. The loop's invariant: so many lines lie before index i as were counted down.
 use Rattle.lines.proofs.Counting.{lines_from, line-from, last-from, more-from}
 use borrow.Author.Tests.{le-ltb}
-use lib.ListN.{length}
-use mathlib.Core.Path.{◌≡◌, sym}
-use Prim.Native.Nat.{◌+◌, ◌≤◌}
+use mathlib.Core.Path.{sym}
 use native.Mathlib.Omega.{arith}
 use Rattle.lines.proofs.more_lines.Goals as goal
 

@@ -1,10 +1,8 @@
 -- `more_lines` meets its contract. The loop's invariant: so many lines lie before index i as were counted down.
-use Rattle.lines.proofs.Counting.{lines_from, line-from, last-from, more-from}
-use borrow.Author.Tests.{le-ltb}
+use Rattle.lines.proofs.Counting.{lines_from}
 use lib.ListN.{length}
-use mathlib.Core.Path.{◌≡◌, sym}
+use mathlib.Core.Path.{◌≡◌}
 use Prim.Native.Nat.{◌+◌, ◌≤◌}
-use native.Mathlib.Omega.{arith}
 use Rattle.lines.proofs.more_lines.Given as goal
 
 abbrev pub invariant-loop-left : goal.invariant-loop-left

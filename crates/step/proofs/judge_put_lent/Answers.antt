@@ -1,6 +1,5 @@
 -- `step::judge_put_lent` meets its contract: what its calls promise, put into one another, is the list of fields of `put_lent_verdict`.
 -- Assumes nothing.
-use borrow.Author.Rules.{rules}
 use Rattle.step.proofs.Rows.{row-then}
 use Rattle.step.specs.Verdict.{put_lent_verdict}
 use Rattle.step.proofs.judge_put_lent.Goals as goal

@@ -2,7 +2,6 @@
 use Prim.Native.Nat.{◌+◌, ◌-◌}
 use mathlib.Core.Path.{◌∙◌, ap}
 use native.Mathlib.Omega.{arith}
-use borrow.Author.Rules.{rules}
 use Rattle.text.specs.Paste.{pasted}
 use Rattle.text.proofs.Decimal.{length-eight}
 use Rattle.text.proofs.Paste.{digits-behind}

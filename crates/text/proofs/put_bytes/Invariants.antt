@@ -1,14 +1,14 @@
 -- `text::put_bytes` meets its contract: after i turns the buffer is the lent one with the first i bytes pasted, and the last turn's
 -- paste is the whole text.
-use Prim.Native.Nat.{ℕ, ◌+◌, ◌-◌, ◌≤◌, ◌<◌, zero-le}
-use mathlib.Core.Path.{◌≡◌, refl, sym, ap, ◌∙◌}
+use Prim.Native.Nat.{ℕ, ◌+◌, ◌-◌, ◌≤◌, ◌<◌}
+use mathlib.Core.Path.{◌≡◌}
 use mathlib.Core.List.{List}
 use native.Mathlib.Numerals.{add-one}
 use native.Mathlib.Omega.{arith}
-use lib.ListN.{length, take, set, get_or, length-set}
-use lib.Seq.{take-suc, take-length, length-take-le}
+use lib.ListN.{length, take, set, get_or}
+use lib.Seq.{take-suc, length-take-le}
 use Rattle.text.specs.Paste.{pasted}
-use Rattle.text.proofs.Paste.{paste-nothing, paste_more}
+use Rattle.text.proofs.Paste.{paste_more}
 use Rattle.text.proofs.put_bytes.Given as goal
 
 -- a turn pastes one byte more

@@ -2,7 +2,6 @@
 use Prim.Native.Nat.{ℕ, ◌+◌}
 use mathlib.Core.Path.{sym, ap, ◌∙◌}
 use native.Mathlib.Omega.{arith}
-use borrow.Author.Rules.{rules}
 use Rattle.text.specs.Digits.{digits}
 use Rattle.text.specs.Paste.{pasted}
 use Rattle.text.proofs.Decimal.{decimal-digits}

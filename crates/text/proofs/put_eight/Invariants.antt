@@ -1,14 +1,13 @@
 -- `text::put_eight` meets its contract: after k turns the buffer is the lent one with the k lowest bytes of the sum pasted.
-use Prim.Native.Nat.{ℕ, ◌+◌, ◌-◌, ◌*◌, ◌/◌, ◌%◌, ◌^◌, ◌≤◌, ◌<◌, zero-le}
-use mathlib.Core.Path.{◌≡◌, refl, sym, ap, ◌∙◌}
+use Prim.Native.Nat.{ℕ, ◌+◌, ◌-◌, ◌*◌, ◌/◌, ◌%◌, ◌^◌, ◌≤◌, ◌<◌}
+use mathlib.Core.Path.{◌≡◌}
 use mathlib.Core.List.{List}
 use native.Mathlib.Numerals.{add-one}
-use native.Mathlib.Omega.{arith}
-use lib.ListN.{length, set, length-set}
-use Rattle.text.specs.Digits.{unpacked, zeros}
+use lib.ListN.{length, set}
+use Rattle.text.specs.Digits.{unpacked}
 use Rattle.text.specs.Paste.{pasted}
 use Rattle.text.proofs.EightDigits.{length-unpacked, unpacked-more}
-use Rattle.text.proofs.Paste.{paste-nothing, paste_more}
+use Rattle.text.proofs.Paste.{paste_more}
 use Rattle.text.proofs.put_eight.Given as goal
 
 -- a turn pastes one byte more

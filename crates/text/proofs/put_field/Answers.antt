@@ -1,7 +1,6 @@
 -- `text::put_field` meets its contract: what its two calls put, one after the other, was put as one text; a single digit is one byte.
 use mathlib.Core.Path.{ap}
 use native.Mathlib.Omega.{arith}
-use borrow.Author.Rules.{rules}
 use lib.ListN.{length}
 use Rattle.text.proofs.Decimal.{decimal-one}
 use Rattle.text.proofs.Paste.{put-digit, put_then}

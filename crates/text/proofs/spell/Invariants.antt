@@ -1,12 +1,12 @@
 -- `text::spell` meets its contract: at each turn, pasting the digits that are still to come over the buffer gives the same
 -- as pasting all of them over the buffer that was lent.
 use Prim.Native.Nat.{ℕ, zero, suc, ◌+◌, ◌-◌, ◌/◌, ◌%◌, ◌≤◌, ◌<◌}
-use mathlib.Core.Path.{◌≡◌, refl, sym, ◌∙◌}
+use mathlib.Core.Path.{◌≡◌, sym}
 use mathlib.Core.List.{List}
-use native.Mathlib.Nat.{le_refl, not-suc-le-zero}
+use native.Mathlib.Nat.{not-suc-le-zero}
 use native.Mathlib.Numerals.{sub-one}
 use native.Mathlib.Omega.{arith}
-use lib.ListN.{length, set, length-set}
+use lib.ListN.{length, set}
 use Rattle.text.specs.Digits.{digits}
 use Rattle.text.specs.Paste.{pasted}
 use Rattle.text.proofs.Decimal.{length_digits}

@@ -1,12 +1,9 @@
 -- `are_narrow` meets its contract: the words from k on are narrow exactly where all that are offered are.
 -- Assumes nothing.
-use mathlib.Core.Path.{◌≡◌, sym, ◌∙◌}
-use Prim.Native.Nat.{◌-◌, ◌≤◌, ◌<◌}
+use mathlib.Core.Path.{sym, ◌∙◌}
+use Prim.Native.Nat.{◌<◌}
 use native.Mathlib.Omega.{arith}
-use borrow.Author.Rules.{rules}
-use lib.ListN.{length, take}
-use Rattle.step.specs.Verdict.{are_narrow}
-use Rattle.step.proofs.Narrow.{narrow_from, narrow-all, narrow-more, narrow_wide, narrow-full, narrow-end}
+use Rattle.step.proofs.Narrow.{narrow-more, narrow_wide}
 use Rattle.step.proofs.fields.are_narrow.Goals as goal
 
 -- a word is too wide

@@ -2,7 +2,6 @@
 -- `wrap24` and `raises` are then of the exact sum, by their own contracts.
 -- Assumes nothing.
 use mathlib.Core.Path.{ap, ◌∙◌}
-use borrow.Author.Rules.{rules}
 use Rattle.word24.specs.Counter.{mod24, raises_at}
 use Rattle.word24.proofs.CounterLaws.{sum_fits, sum_back, sum_wraps}
 use Rattle.word24.proofs.counter.count24.Goals as goal

@@ -3,7 +3,6 @@
 -- Assumes nothing.
 use mathlib.Core.Path.{ap, ◌∙◌}
 use Prim.Native.Nat.{ℕ, ◌-◌, ◌^◌}
-use borrow.Author.Rules.{rules}
 use lib.Bits.{bit_and}
 use lib.Pow.{pow-lt}
 use Rattle.word24.proofs.BitLaws.{one_bit, and-not}
