@@ -244,9 +244,9 @@ module _ (a f w : ℕ) (s : a ≤ 15) (l : w ≤ 16777215) where
       run-block ns (does x k) (rest k ns b) (next k ns x b q) o.1 n
       ∙ ⊎_elim
       (λ (e : n ≡ k). subst
-          (λ (z : ℕ). cond (is_one_of z ns) (command_of (block_of (does x k) z) a f w).block (block_of (does x k) z)
-              ≡ cond (is_one_of z (k ∷ ns)) (command_of (block_of x z) a f w).block (block_of x z))
-          (sym e) (rw (here k ns, o.0) (own_block x k q r.0 r.1)))
+      (λ (z : ℕ). cond (is_one_of z ns) (command_of (block_of (does x k) z) a f w).block (block_of (does x k) z)
+      ≡ cond (is_one_of z (k ∷ ns)) (command_of (block_of x z) a f w).block (block_of x z))
+      (sym e) (rw (here k ns, o.0) (own_block x k q r.0 r.1)))
       (λ (d : n ≡ k → ⊥). rw (ne_eqb n k d, other_block x k q r.0 r.1 n d))
       (alike n k)
 

@@ -1,5 +1,4 @@
 -- `pagontxu_crate_line` meets its contract: the verdict on the line, told as a number.
-use borrow.Author.Rules.{rules}
 use Rattle.capi.proofs.CallLaws.{crate-told}
 use Rattle.capi.proofs.pagontxu_crate_line.Goals as goal
 

@@ -1,5 +1,4 @@
 -- `pagontxu_list` meets its contract: the verdict on the run, told as a number.
-use borrow.Author.Rules.{rules}
 use Rattle.capi.proofs.CallLaws.{list-told}
 use Rattle.capi.proofs.pagontxu_list.Goals as goal
 

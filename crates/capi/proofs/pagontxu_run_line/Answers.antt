@@ -1,5 +1,4 @@
 -- `pagontxu_run_line` meets its contract: too few words for the answer, then the line, told.
-use borrow.Author.Rules.{rules}
 use Rattle.capi.proofs.CallLaws.{line-untold, line-told}
 use Rattle.capi.proofs.pagontxu_run_line.Goals as goal
 

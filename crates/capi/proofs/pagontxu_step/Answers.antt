@@ -1,5 +1,4 @@
 -- `pagontxu_step` meets its contract: too few words for the answer, then too few for the step, then the step, told.
-use borrow.Author.Rules.{rules}
 use Rattle.capi.proofs.CallLaws.{step-untold, step-few, step-told}
 use Rattle.capi.proofs.pagontxu_step.Goals as goal
 

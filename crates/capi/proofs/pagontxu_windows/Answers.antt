@@ -1,5 +1,4 @@
 -- `pagontxu_windows` meets its contract: what the open call answers, told as a number and as a count.
-use borrow.Author.Rules.{rules}
 use Rattle.capi.proofs.WindowLaws.{windows-told}
 use Rattle.capi.proofs.pagontxu_windows.Goals as goal
 

@@ -1,5 +1,4 @@
 -- `run_words` meets its contract: the first six words are the step's, and a garbled one is refused, after 9.
-use borrow.Author.Rules.{rules}
 use Rattle.capi.proofs.CallLaws.{words-read, words-bad}
 use Rattle.capi.proofs.run_words.Goals as goal
 

@@ -1,6 +1,5 @@
 -- `unless_unfit` meets its contract: the test of the crate chooses between the refusal and 9.
 use mathlib.Core.Path.{sym, ◌∙◌}
-use borrow.Author.Rules.{rules}
 use Rattle.capi.proofs.CallLaws.{unless-fit, unless_not}
 use Rattle.capi.proofs.unless_unfit.Goals as goal
 

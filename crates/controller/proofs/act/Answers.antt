@@ -1,7 +1,6 @@
 -- `act` meets its contract: a step that is not refused has the fields that each call asks for (`..-good`), and each arm comes to the definition's (`..-acts`).
-use borrow.Author.Rules.{rules}
-use Rattle.controller.proofs.Arms.{command-good, front-good, inhibit-good, scan_good, repeat-good, stop-good, put-good, put-lent-good, processor-good, command-acts}
-use Rattle.controller.proofs.Arms.{front-acts, z-acts, c-acts, inhibit-acts, lam-acts, scan-acts, repeat-acts, stop-acts, put-acts, put-lent-acts, processor-acts, within-good, within-acts}
+use Rattle.controller.proofs.Arms.{command-good, front-good, inhibit-good, scan_good, repeat-good, stop-good, put-good, put-lent-good}
+use Rattle.controller.proofs.Arms.{within-good}
 use Rattle.controller.proofs.act.Goals as goal
 
 pub send-requires : goal.send-requires
@@ -14,12 +13,18 @@ pub set_inhibit-requires : goal.set_inhibit-requires
 set_inhibit-requires c = record { fit_crate = c.requires.fact_1; v_bound = inhibit-good _ _ c.requires.fact_2 _ c.in-Inhibit.is }
 
 pub scan-requires : goal.scan-requires
-scan-requires c = record { fit_crate = c.requires.fact_1; le_n = scan_good _ _ c.requires.fact_2 _ _ _ _ _
-      c.in-Scan.is }
+scan-requires c = record {
+  fit_crate = c.requires.fact_1;
+  le_n = scan_good _ _ c.requires.fact_2 _ _ _ _ _
+      c.in-Scan.is;
+}
 
 pub repeat-requires : goal.repeat-requires
-repeat-requires c = record { fit_crate = c.requires.fact_1; le_n = repeat-good _ _ c.requires.fact_2 _ _ _ _ _
-      c.in-Repeat.is }
+repeat-requires c = record {
+  fit_crate = c.requires.fact_1;
+  le_n = repeat-good _ _ c.requires.fact_2 _ _ _ _ _
+      c.in-Repeat.is;
+}
 
 pub stop-requires : goal.stop-requires
 stop-requires c = record { fit_crate = c.requires.fact_1; le_n = stop-good _ _ c.requires.fact_2 _ _ _ _ c.in-Stop.is }

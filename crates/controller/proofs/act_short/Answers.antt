@@ -1,6 +1,5 @@
 -- `act_short` meets its contract: a transfer that is fine at the trigger processor's entry has the fields that the general entry's call asks for.
-use borrow.Author.Rules.{rules}
-use Rattle.controller.proofs.Arms.{short-scan-good, short-repeat-good, short-stop-good, short-acts}
+use Rattle.controller.proofs.Arms.{short-scan-good, short-repeat-good, short-stop-good}
 use Rattle.controller.proofs.act_short.Goals as goal
 
 pub scan-requires : goal.scan-requires

@@ -1,5 +1,4 @@
 -- `perform` meets its contract: a reading that is no step is refused as it says, and any other is its step.
-use borrow.Author.Rules.{rules}
 use Rattle.controller.proofs.Arms.{bad-done}
 use Rattle.controller.proofs.perform.Goals as goal
 

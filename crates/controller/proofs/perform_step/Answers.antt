@@ -1,8 +1,5 @@
 -- `perform_step` meets its contract: where `judge` refuses, nothing is done; else `act` does the step, and the crate stays fit by the law of all steps.
-use mathlib.Core.Path.{ap, sym, ◌∙◌}
-use borrow.Author.Rules.{rules}
 use Rattle.controller.proofs.Arms.{refused-done, acted-done}
-use Rattle.step.specs.Verdict.{is_fine}
 use Rattle.controller.proofs.perform_step.Goals as goal
 
 pub returns-in-Refuse : goal.returns-in-Refuse

@@ -7,7 +7,6 @@ use lib.ListN.{length, take}
 use mathlib.Core.Path.{◌≡◌, sym, ◌∙◌}
 use Prim.Native.Nat.{◌<◌}
 use native.Mathlib.Omega.{arith}
-use borrow.Author.Rules.{rules}
 use Rattle.listfile.proofs.finish.Goals as goal
 
 pub returns-then-s-ge-LINES : goal.returns-then-s-ge-LINES
@@ -20,5 +19,8 @@ returns-then-s-eq0 c = let a = c.args in
 pub returns : goal.returns
 returns c = let a = c.args in
     let some = c.if-s-eq0.false in
-    let n : 0 < length (take a.s.fill a.line.now) = rw (length-take-le a.s.fill a.line.now (omega arith)) (omega arith) in record { words_after = c.end_line.ensures.words_after
-          ∙ sym (closed-end storing (state_of a.s a.line.now a.words.now) (taken (state_of a.s a.line.now a.words.now) (omega arith)) n); held = c.end_line.ensures.held_2 }
+    let n : 0 < length (take a.s.fill a.line.now) = rw (length-take-le a.s.fill a.line.now (omega arith)) (omega arith) in record {
+      words_after = c.end_line.ensures.words_after
+          ∙ sym (closed-end storing (state_of a.s a.line.now a.words.now) (taken (state_of a.s a.line.now a.words.now) (omega arith)) n);
+      held = c.end_line.ensures.held_2;
+    }

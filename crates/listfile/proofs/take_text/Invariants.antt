@@ -1,13 +1,9 @@
 -- `take_text` meets its contract. The loop's invariant: reader, line and words are those of the first i bytes.
 use Rattle.lines.specs.Cutting.{feed}
-use Rattle.lines.proofs.CuttingLaws.{fed-span, fed-end, fed-all, fed-over}
-use Rattle.listfile.proofs.ListingLaws.{taken, past}
 use Rattle.listfile.specs.Listing.{storing, state_of}
-use Rattle.lines.proofs.Parts.{no-lf}
 use lib.ListN.{length, take}
-use mathlib.Core.Path.{◌≡◌, refl, ◌∙◌}
+use mathlib.Core.Path.{◌≡◌}
 use Prim.Native.Nat.{◌-◌, ◌≤◌}
-use native.Mathlib.Omega.{arith}
 use Rattle.listfile.proofs.take_text.Given as goal
 
 abbrev pub invariant-loop-i : goal.invariant-loop-i

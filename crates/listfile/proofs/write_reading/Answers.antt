@@ -1,7 +1,6 @@
 -- `write_reading` meets its contract: a step has its words, and a line that is no step has six zeros.
 use Rattle.listfile.specs.ListWords.{line_words}
 use mathlib.Core.Path.{sym, ap, ◌∙◌}
-use borrow.Author.Rules.{rules}
 use Rattle.listfile.proofs.write_reading.Goals as goal
 
 pub returns-in-Good : goal.returns-in-Good

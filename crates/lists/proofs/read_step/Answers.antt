@@ -1,5 +1,4 @@
 -- `read_step` meets its contract: each arm of the match is a case of `kinds_of`, and a number of none is garbled.
-use borrow.Author.Rules.{rules}
 use Rattle.lists.proofs.Lent.{reading-else}
 use Rattle.lists.specs.Words.{kinds_of, reading_of}
 use Rattle.lists.proofs.read_step.Goals as goal

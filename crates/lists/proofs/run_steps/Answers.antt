@@ -1,8 +1,6 @@
 -- `run_steps` meets its contract. The loop's invariant, `Running`: memory, answers and buffers are those of the first k steps, and the rest is as it was.
-use Prim.Native.Nat.{◌-◌, ◌≤◌}
-use mathlib.Core.Path.{sym, ◌∙◌}
 use native.Mathlib.Omega.{arith}
-use Rattle.lists.proofs.Running.{Running, running-start, answer-place, running_more, running-done}
+use Rattle.lists.proofs.Running.{running-start, running_more, running-done}
 use Rattle.lists.proofs.run_steps.Goals as goal
 
 pub loop-k-init : goal.loop-k-init

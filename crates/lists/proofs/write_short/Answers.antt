@@ -1,7 +1,6 @@
 -- `write_short` meets its contract: each arm stores the words of its transfer.
 use Rattle.lists.specs.Words.{step_words}
 use mathlib.Core.Path.{sym, ap, ◌∙◌}
-use borrow.Author.Rules.{rules}
 use Rattle.step.specs.declared.Short.{Short}
 use Rattle.step.specs.declared.Step.TheVariants.{Processor}
 use Rattle.lists.proofs.write_short.Goals as goal

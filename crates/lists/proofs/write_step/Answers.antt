@@ -1,7 +1,6 @@
 -- `write_step` meets its contract: each arm stores the words of its step.
 use Rattle.lists.specs.Words.{step_words}
 use mathlib.Core.Path.{sym, ap, ◌∙◌}
-use borrow.Author.Rules.{rules}
 use Rattle.lists.proofs.write_step.Goals as goal
 
 pub returns-in-Command : goal.returns-in-Command

@@ -1,15 +1,10 @@
 -- `chunk_lines` meets its contract: each turn takes the bytes up to the next LF and the LF itself.
-use Rattle.reader.proofs.InPlace.{fed-line}
-use Rattle.lines.proofs.Parts.{no-lf, next-in-rest, length_rest}
 use Rattle.lines.specs.Cutting.{feed}
-use Rattle.lines.proofs.CuttingLaws.{fed-span}
-use Rattle.reader.proofs.ReadingLaws.{begun}
-use Rattle.reader.specs.Reading.{State, rehearsing, state_of}
-use lib.ListN.{length, take, drop}
+use Rattle.reader.specs.Reading.{rehearsing, state_of}
+use lib.ListN.{length, take}
 use Rattle.dataway.specs.Crate.{FitCrate}
-use mathlib.Core.Path.{◌≡◌, refl, sym, ap, ◌∙◌}
-use Prim.Native.Nat.{◌+◌, ◌-◌, ◌≤◌}
-use native.Mathlib.Omega.{arith}
+use mathlib.Core.Path.{◌≡◌}
+use Prim.Native.Nat.{◌-◌, ◌≤◌}
 use Rattle.reader.proofs.chunk_lines.Given as goal
 
 abbrev pub invariant-loop-i : goal.invariant-loop-i

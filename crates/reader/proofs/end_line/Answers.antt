@@ -1,7 +1,6 @@
 -- `end_line` meets its contract: the phase says which file a line is of.
 use Rattle.reader.proofs.ReadingLaws.{run-answered, module-answered}
 use mathlib.Core.Path.{◌∙◌}
-use borrow.Author.Rules.{rules}
 use Rattle.reader.proofs.end_line.Goals as goal
 
 pub returns-then-s-eq1 : goal.returns-then-s-eq1

@@ -6,7 +6,6 @@ use lib.ListN.{length, take}
 use lib.Seq.{length-take-le}
 use Rattle.reader.specs.Reading.{state_of}
 use Rattle.reader.proofs.ReadingLaws.{closed-over, closed-stop, closed_none, closed-end}
-use borrow.Author.Rules.{rules}
 use Rattle.reader.proofs.finish.Goals as goal
 
 pub returns-then-s-ge-LINES : goal.returns-then-s-ge-LINES
@@ -24,5 +23,8 @@ returns-then-s-eq0 c = let pre = c.requires in
 pub returns : goal.returns
 returns c = let a = c.args in
     let e = c.if-s-eq0.false in
-    let n : 0 < length (take a.s.fill a.line.now) = rw (length-take-le a.s.fill a.line.now (omega arith)) (omega arith) in record { out_after = c.end_line.ensures.out_after
-          ∙ closed-end (state_of a.s a.line.now a.memory.now a.out.now) (omega arith) (omega arith) n; held = c.end_line.ensures.held }
+    let n : 0 < length (take a.s.fill a.line.now) = rw (length-take-le a.s.fill a.line.now (omega arith)) (omega arith) in record {
+      out_after = c.end_line.ensures.out_after
+          ∙ closed-end (state_of a.s a.line.now a.memory.now a.out.now) (omega arith) (omega arith) n;
+      held = c.end_line.ensures.held;
+    }

@@ -3,7 +3,6 @@ use Rattle.lines.proofs.Parts.{put_front}
 use Rattle.reader.proofs.ReadingLaws.{states, put-within}
 use mathlib.Core.Path.{refl}
 use native.Mathlib.Omega.{arith}
-use borrow.Author.Rules.{rules}
 use Rattle.reader.proofs.refuse.Goals as goal
 
 pub returns : goal.returns

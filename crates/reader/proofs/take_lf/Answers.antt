@@ -2,7 +2,6 @@
 use native.Mathlib.Omega.{arith}
 use mathlib.Core.Path.{refl, ◌∙◌}
 use Rattle.reader.proofs.ReadingLaws.{step-over, step-stop, step_end}
-use borrow.Author.Rules.{rules}
 use Rattle.reader.proofs.take_lf.Goals as goal
 
 pub returns-then-s-ge-LINES : goal.returns-then-s-ge-LINES

@@ -6,7 +6,6 @@ use lib.Seq.{length-take-le, take_all}
 use Rattle.reader.specs.Reading.{rehearsing, state_of}
 use Rattle.reader.proofs.ReadingLaws.{states, open-still, shut-over, shut-ended}
 use Rattle.lines.proofs.CuttingLaws.{feed-shut, feed-span}
-use borrow.Author.Rules.{rules}
 use Rattle.reader.proofs.take_span.Goals as goal
 
 pub returns-then-s-ge-LINES : goal.returns-then-s-ge-LINES
@@ -22,7 +21,10 @@ returns c = let a = c.args in
     let kept = c.keep-next.ensures in
     let number = c.if-s-ge-LINES.false in
     let phase = c.if-s-ge2.false in
-    let len : length p ≡ a.s.fill = length-take-le a.s.fill a.line.now (omega arith) in record { by_index = λ m o.
+    let len : length p ≡ a.s.fill = length-take-le a.s.fill a.line.now (omega arith) in record {
+      by_index = λ m o.
           let s = state_of a.s a.line.now m o in
           states kept.line_after refl refl refl refl refl
-          ∙ sym (feed-span rehearsing a.span.now s (open-still s number phase) (sym (take_all 81 p (omega arith))) pre.no_lf); fill_bound_2 = (kept.upper_bound, refl) }
+          ∙ sym (feed-span rehearsing a.span.now s (open-still s number phase) (sym (take_all 81 p (omega arith))) pre.no_lf);
+      fill_bound_2 = (kept.upper_bound, refl);
+    }

@@ -3,7 +3,6 @@ use mathlib.Core.Path.{refl}
 use borrow.Author.Tests.{eq-eqb, ne_eqb}
 use Rattle.report.specs.Report.{alike}
 use Rattle.report.proofs.LineLaws.{alike_as}
-use borrow.Author.Rules.{rules}
 use Rattle.report.proofs.part_alike.Goals as goal
 
 pub returns-then-a-d : goal.returns-then-a-d

@@ -1,7 +1,6 @@
 -- `put_lines` meets its contract: no station parts (`lines-refusals`), or the lines of the refusal numbers follow those of the stations (`lines-both`).
 use native.Mathlib.Omega.{arith}
 use Rattle.report.proofs.ReportLaws.{lines-refusals, lines-both}
-use borrow.Author.Rules.{rules}
 use Rattle.report.proofs.put_lines.Goals as goal
 
 pub returns-then-from-gt-LAST_STATION : goal.returns-then-from-gt-LAST_STATION

@@ -5,7 +5,6 @@ use Rattle.text.proofs.Decimal.{length-ten}
 use Rattle.text.proofs.Paste.{put_then, after-field}
 use Rattle.sheet.proofs.Room.{of-text}
 use Rattle.report.proofs.LineLaws.{names-one, names-two}
-use borrow.Author.Rules.{rules}
 use Rattle.report.proofs.put_names.Goals as goal
 
 pub put_field-next-requires : goal.put_field-next-requires

@@ -4,7 +4,6 @@ use Rattle.text.specs.Text.{bytes}
 use Rattle.text.proofs.Decimal.{length-ten}
 use Rattle.text.proofs.Paste.{put_then, after-field}
 use Rattle.report.specs.Report.{numbers_text}
-use borrow.Author.Rules.{rules}
 use Rattle.report.proofs.put_numbers.Goals as goal
 
 pub put_field-there-requires : goal.put_field-there-requires

@@ -1,10 +1,6 @@
 -- `put_refusals` meets its contract: after each turn the lines of the refusal numbers before watch k are put (`refusals-next`).
 use native.Mathlib.Omega.{arith}
-use lib.ListN.{length}
-use Prim.Native.Nat.{ℕ, ◌+◌, ◌-◌, ◌≤◌}
-use mathlib.Core.Path.{◌≡◌, refl, subst}
-use Rattle.verdict.specs.Watches.{last_watch}
-use Rattle.report.specs.Lines.{PutRefusals}
+use mathlib.Core.Path.{refl}
 use Rattle.report.proofs.ReportLaws.{refusals-start, refusals-next}
 use Rattle.report.proofs.put_refusals.Goals as goal
 

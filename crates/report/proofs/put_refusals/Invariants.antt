@@ -1,11 +1,9 @@
 -- `put_refusals` meets its contract: after each turn the lines of the refusal numbers before watch k are put (`refusals-next`).
-use native.Mathlib.Omega.{arith}
 use lib.ListN.{length}
-use Prim.Native.Nat.{ℕ, ◌+◌, ◌-◌, ◌≤◌}
-use mathlib.Core.Path.{◌≡◌, refl, subst}
+use Prim.Native.Nat.{◌+◌, ◌-◌, ◌≤◌}
+use mathlib.Core.Path.{◌≡◌}
 use Rattle.verdict.specs.Watches.{last_watch}
 use Rattle.report.specs.Lines.{PutRefusals}
-use Rattle.report.proofs.ReportLaws.{refusals-start, refusals-next}
 use Rattle.report.proofs.put_refusals.Given as goal
 
 abbrev pub invariant-loop-k : goal.invariant-loop-k

@@ -1,6 +1,5 @@
 -- `put_report` meets its contract: the lists are the same (`report-same`), or part at a first watch (`report-parted`).
-use Rattle.report.proofs.ReportLaws.{report-same, report-parted, none_before}
-use borrow.Author.Rules.{rules}
+use Rattle.report.proofs.ReportLaws.{report-same, report-parted}
 use Rattle.report.proofs.put_report.Goals as goal
 
 pub returns-in-Same : goal.returns-in-Same

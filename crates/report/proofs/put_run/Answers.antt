@@ -4,7 +4,6 @@ use Rattle.text.proofs.Paste.{put_then}
 use Rattle.sheet.proofs.Room.{put-end, put-nothing}
 use Rattle.report.specs.Report.{names_text}
 use Rattle.report.proofs.LineLaws.{line_as, names-short}
-use borrow.Author.Rules.{rules}
 use Rattle.report.proofs.put_run.Goals as goal
 
 pub put_numbers-requires : goal.put_numbers-requires

@@ -1,9 +1,7 @@
 -- `put_runs` meets its contract: after each turn the stations before k were taken (`heard-next`), and with the line of the last run all lines are put (`heard_all`).
 use native.Mathlib.Omega.{arith}
-use lib.ListN.{length}
-use Prim.Native.Nat.{◌-◌, ◌≤◌}
-use mathlib.Core.Path.{◌≡◌, refl}
-use Rattle.report.proofs.HeardLaws.{Heard, heard-start, heard-next, heard_all}
+use mathlib.Core.Path.{refl}
+use Rattle.report.proofs.HeardLaws.{heard-start, heard-next, heard_all}
 use Rattle.report.proofs.put_runs.Goals as goal
 
 pub loop-k-init : goal.loop-k-init

@@ -1,9 +1,8 @@
 -- `put_runs` meets its contract: after each turn the stations before k were taken (`heard-next`), and with the line of the last run all lines are put (`heard_all`).
-use native.Mathlib.Omega.{arith}
 use lib.ListN.{length}
 use Prim.Native.Nat.{◌-◌, ◌≤◌}
-use mathlib.Core.Path.{◌≡◌, refl}
-use Rattle.report.proofs.HeardLaws.{Heard, heard-start, heard-next, heard_all}
+use mathlib.Core.Path.{◌≡◌}
+use Rattle.report.proofs.HeardLaws.{Heard}
 use Rattle.report.proofs.put_runs.Given as goal
 
 abbrev pub invariant-loop-k : goal.invariant-loop-k

@@ -2,7 +2,6 @@
 use Prim.Native.Nat.{ℕ}
 use mathlib.Core.Path.{ap}
 use native.Mathlib.Omega.{arith}
-use borrow.Author.Rules.{rules}
 use Rattle.text.specs.Text.{field}
 use Rattle.text.proofs.Decimal.{length-ten}
 use Rattle.sheet.specs.Answers.{body}

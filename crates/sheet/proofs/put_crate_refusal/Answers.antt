@@ -3,7 +3,6 @@ use Prim.Native.Nat.{ℕ}
 use mathlib.Core.List.{◌++◌}
 use mathlib.Core.Path.{ap}
 use native.Mathlib.Omega.{arith}
-use borrow.Author.Rules.{rules}
 use Rattle.sheet.proofs.Room.{of-text}
 use Rattle.sheet.specs.Answers.{crate_text}
 use Rattle.text.proofs.Paste.{put_then, after-field}

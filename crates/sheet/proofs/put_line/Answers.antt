@@ -1,6 +1,5 @@
 -- `put_line` meets its contract: number with its key, body and LF, put one after the other.
 use native.Mathlib.Omega.{arith}
-use borrow.Author.Rules.{rules}
 use Rattle.sheet.proofs.Room.{put-end, body-short}
 use Rattle.sheet.specs.Answers.{step_line}
 use Rattle.text.proofs.Paste.{put_then, after-field}

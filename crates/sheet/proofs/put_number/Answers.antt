@@ -1,7 +1,6 @@
 -- `put_number` meets its contract: the key, put over the gap, and the number behind it stand one after the other.
 use mathlib.Core.Path.{refl}
 use native.Mathlib.Omega.{arith}
-use borrow.Author.Rules.{rules}
 use Rattle.text.proofs.Paste.{behind-key}
 use Rattle.text.proofs.Decimal.{length-ten}
 use Rattle.sheet.proofs.put_number.Goals as goal

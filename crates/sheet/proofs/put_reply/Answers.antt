@@ -1,6 +1,5 @@
 -- `put_reply` meets its contract: three fields put one after the other were put as one text.
 use native.Mathlib.Omega.{arith}
-use borrow.Author.Rules.{rules}
 use Rattle.text.specs.Text.{bytes}
 use Rattle.text.proofs.Paste.{put_then, after-field}
 use Rattle.text.proofs.Decimal.{length-ten}

@@ -1,7 +1,6 @@
 -- `put_step` meets its contract: the step's line, then the lines of its words.
-use mathlib.Core.Path.{sym, ap}
+use mathlib.Core.Path.{ap}
 use native.Mathlib.Omega.{arith}
-use borrow.Author.Rules.{rules}
 use lib.Seq.{length-take-le}
 use Rattle.sheet.proofs.Room.{put-end, line-short, of-text}
 use Rattle.sheet.specs.Answers.{word_lines, step_text}

@@ -1,7 +1,6 @@
 -- `put_word` meets its contract: the key, put over the gap, the number behind it and LF stand one after the other.
 use mathlib.Core.Path.{refl}
 use native.Mathlib.Omega.{arith}
-use borrow.Author.Rules.{rules}
 use Rattle.sheet.specs.Answers.{word_line}
 use Rattle.text.proofs.Paste.{put_then, after-field, behind-key}
 use Rattle.text.proofs.Decimal.{length-ten}

@@ -1,12 +1,9 @@
 -- `put_words` meets its contract: after i turns the lines of the first i words were put.
-use Prim.Native.Nat.{◌-◌, ◌≤◌, zero-le}
-use mathlib.Core.Path.{◌≡◌, refl}
+use Prim.Native.Nat.{zero-le}
+use mathlib.Core.Path.{refl}
 use native.Mathlib.Omega.{arith}
-use lib.ListN.{length, take}
-use Rattle.sheet.proofs.Room.{put-nothing, of-text, words-end, next_word, all_words}
-use Rattle.sheet.specs.Answers.{word_lines}
+use Rattle.sheet.proofs.Room.{put-nothing, of-text, words-end, next_word}
 use Rattle.text.proofs.Paste.{put_then}
-use Rattle.text.specs.Paste.{Put}
 use Rattle.sheet.proofs.put_words.Goals as goal
 
 pub loop-i-init : goal.loop-i-init

@@ -1,11 +1,8 @@
 -- `put_words` meets its contract: after i turns the lines of the first i words were put.
-use Prim.Native.Nat.{◌-◌, ◌≤◌, zero-le}
-use mathlib.Core.Path.{◌≡◌, refl}
-use native.Mathlib.Omega.{arith}
+use Prim.Native.Nat.{◌-◌, ◌≤◌}
+use mathlib.Core.Path.{◌≡◌}
 use lib.ListN.{length, take}
-use Rattle.sheet.proofs.Room.{put-nothing, of-text, words-end, next_word, all_words}
 use Rattle.sheet.specs.Answers.{word_lines}
-use Rattle.text.proofs.Paste.{put_then}
 use Rattle.text.specs.Paste.{Put}
 use Rattle.sheet.proofs.put_words.Given as goal
 

@@ -1,6 +1,5 @@
 -- `judged` meets its contract: where `judge` refuses, the step counts as its refusal, and else as itself.
 -- Assumes nothing.
-use borrow.Author.Rules.{rules}
 use Rattle.verdict.proofs.CountedLaws.{judged-good, judged-bad}
 use Rattle.verdict.proofs.judged.Goals as goal
 

@@ -1,7 +1,6 @@
 -- `next` meets its contract: the steps passed over are not seen by the watch (`Looking`).
-use Rattle.verdict.proofs.Walks.{Looking, looking-start, looking-more, looking-found, looking-end}
+use Rattle.verdict.proofs.Walks.{Looking}
 use Rattle.verdict.specs.Counted.{count}
-use native.Mathlib.Omega.{arith}
 use Prim.Native.Nat.{◌-◌}
 use Rattle.verdict.proofs.next.Given as goal
 

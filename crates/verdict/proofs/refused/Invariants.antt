@@ -1,11 +1,8 @@
 -- `refused` meets its contract. The loop's invariant: so many of the first i steps are refused.
 -- Assumes nothing.
-use mathlib.Core.Path.{◌≡◌, refl, sym, ap, ◌∙◌}
-use Prim.Native.Nat.{◌+◌, ◌-◌, ◌≤◌}
-use native.Mathlib.Omega.{arith}
-use borrow.Author.Rules.{rules}
+use mathlib.Core.Path.{◌≡◌}
+use Prim.Native.Nat.{◌-◌, ◌≤◌}
 use Rattle.verdict.specs.Counted.{count, refused_to}
-use Rattle.verdict.proofs.Walks.{refused-more, refused_none, refused-few}
 use Rattle.verdict.proofs.refused.Given as goal
 
 abbrev pub invariant-loop-i : goal.invariant-loop-i

@@ -1,7 +1,6 @@
 -- `same_step` meets its contract: steps are equal where their words are (`step-told`).
 -- Assumes nothing.
 use Rattle.verdict.proofs.EqualLaws.{step-told}
-use borrow.Author.Rules.{rules}
 use Rattle.verdict.proofs.same_step.Goals as goal
 
 pub returns : goal.returns

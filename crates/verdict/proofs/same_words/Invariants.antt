@@ -1,13 +1,8 @@
 -- `same_words` meets its contract: the words before the present one are equal.
 -- Assumes nothing.
-use mathlib.Core.Path.{◌≡◌, sym, ap, ◌∙◌}
+use mathlib.Core.Path.{◌≡◌}
 use Prim.Native.Nat.{ℕ, ◌-◌, ◌≤◌, ◌<◌}
-use native.Mathlib.Omega.{arith}
-use borrow.Author.Count.{below_more}
-use borrow.Author.Rules.{rules}
 use lib.ListN.{get_or}
-use lib.Seq.{ext_get_or}
-use Rattle.verdict.proofs.EqualLaws.{tells-true, tells-false}
 use Rattle.verdict.proofs.same_words.Given as goal
 
 abbrev pub invariant-loop-i : goal.invariant-loop-i

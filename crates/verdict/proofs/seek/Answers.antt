@@ -1,9 +1,6 @@
 -- `seek` meets its contract: none of the steps passed over is step i of the first list (`Seeking`).
 -- Assumes nothing.
-use Prim.Native.Nat.{◌-◌}
-use native.Mathlib.Omega.{arith}
-use Rattle.verdict.specs.Counted.{count}
-use Rattle.verdict.proofs.Walks.{Seeking, seeking-start, seeking-more, seeking-found, seeking-end}
+use Rattle.verdict.proofs.Walks.{seeking-more}
 use Rattle.verdict.proofs.seek.Goals as goal
 
 pub loop-j-preserved : goal.loop-j-preserved

@@ -1,8 +1,5 @@
 -- `sees_at` meets its contract: a station by `touches_at`, a refusal number by what the step counts as.
 use Rattle.verdict.proofs.CountedLaws.{step_counts}
-use Rattle.verdict.specs.Counted.{see}
-use mathlib.Core.Path.{ap, ◌∙◌}
-use borrow.Author.Rules.{rules}
 use Rattle.verdict.proofs.sees_at.Goals as goal
 
 pub sees-requires : goal.sees-requires

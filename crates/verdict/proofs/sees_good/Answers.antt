@@ -1,7 +1,6 @@
 -- `sees_good` meets its contract: a step that may be done is seen by the stations that it reaches, and by no refusal number.
 -- Assumes nothing.
 use mathlib.Core.Path.{sym, ◌∙◌}
-use borrow.Author.Rules.{rules}
 use Rattle.verdict.proofs.CountedLaws.{see-good, see-good-high}
 use Rattle.verdict.proofs.sees_good.Goals as goal
 

@@ -1,6 +1,5 @@
 -- `step_at` meets its contract: the lent part is the step's six words, and their reading is counted (`step-read`).
 -- Assumes nothing.
-use borrow.Author.Rules.{rules}
 use Rattle.verdict.proofs.CountedLaws.{step-read, bad-counts}
 use Rattle.verdict.proofs.step_at.Goals as goal
 

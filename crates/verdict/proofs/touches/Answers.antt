@@ -1,7 +1,6 @@
 -- `touches` meets its contract: a step that does not reach the station is not seen (`see-unreached`), else its verdict decides (`see-judged`).
 use Rattle.verdict.proofs.CountedLaws.{see-unreached, see-judged}
 use borrow.Author.Tests.{not-true, not-false}
-use borrow.Author.Rules.{rules}
 use Rattle.verdict.proofs.touches.Goals as goal
 
 pub returns-then-not-reached : goal.returns-then-not-reached

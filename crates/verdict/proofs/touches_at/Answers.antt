@@ -1,6 +1,5 @@
 -- `touches_at` meets its contract: the reading is a step (`see-step`) or none (`see-no-step`).
-use Rattle.verdict.proofs.CountedLaws.{see-no-step, see-step}
-use borrow.Author.Rules.{rules}
+use Rattle.verdict.proofs.CountedLaws.{see-no-step}
 use Rattle.verdict.proofs.touches_at.Goals as goal
 
 pub returns-in-Bad : goal.returns-in-Bad

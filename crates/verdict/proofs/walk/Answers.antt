@@ -1,13 +1,9 @@
 -- `walk` meets its contract: before the two cursors the watch sees the same (`Walking`). Where both have come to the end, that is all; where one has, or where
 -- the steps differ, the lists part.
 -- Assumes nothing.
-use mathlib.Core.Logic.{inl, inr}
-use mathlib.Core.Path.{refl}
-use Prim.Native.Nat.{◌-◌}
 use native.Mathlib.Omega.{arith}
-use borrow.Author.Tests.{not-true, not-false}
-use Rattle.verdict.specs.Counted.{count}
-use Rattle.verdict.proofs.Walks.{Walking, walking_start, walking-more, walking-same, walking-parts}
+use borrow.Author.Tests.{not-false}
+use Rattle.verdict.proofs.Walks.{walking_start, walking-more}
 use Rattle.verdict.proofs.walk.Goals as goal
 
 pub loop-k-init : goal.loop-k-init

@@ -1,13 +1,9 @@
 -- `walk` meets its contract: before the two cursors the watch sees the same (`Walking`). Where both have come to the end, that is all; where one has, or where
 -- the steps differ, the lists part.
 -- Assumes nothing.
-use mathlib.Core.Logic.{inl, inr}
-use mathlib.Core.Path.{refl}
 use Prim.Native.Nat.{◌-◌}
-use native.Mathlib.Omega.{arith}
-use borrow.Author.Tests.{not-true, not-false}
 use Rattle.verdict.specs.Counted.{count}
-use Rattle.verdict.proofs.Walks.{Walking, walking_start, walking-more, walking-same, walking-parts}
+use Rattle.verdict.proofs.Walks.{Walking}
 use Rattle.verdict.proofs.walk.Given as goal
 
 abbrev pub invariant-loop-k : goal.invariant-loop-k

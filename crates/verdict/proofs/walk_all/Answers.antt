@@ -1,10 +1,7 @@
 -- `walk_all` meets its contract: the watches below k see the same (`Below`), and where watch k parts no rearrangement is left.
 -- Assumes nothing.
-use Prim.Native.Nat.{◌+◌, ◌-◌, ◌≤◌}
 use native.Mathlib.Omega.{arith}
-use borrow.Author.Rules.{rules}
-use Rattle.verdict.specs.Watches.{last_watch}
-use Rattle.verdict.proofs.Walks.{Below, compared_same, compared-parted, below_more}
+use Rattle.verdict.proofs.Walks.{compared_same, compared-parted}
 use Rattle.verdict.proofs.walk_all.Goals as goal
 
 pub returns-in-Parted : goal.returns-in-Parted

@@ -1,10 +1,8 @@
 -- `walk_all` meets its contract: the watches below k see the same (`Below`), and where watch k parts no rearrangement is left.
 -- Assumes nothing.
 use Prim.Native.Nat.{◌+◌, ◌-◌, ◌≤◌}
-use native.Mathlib.Omega.{arith}
-use borrow.Author.Rules.{rules}
 use Rattle.verdict.specs.Watches.{last_watch}
-use Rattle.verdict.proofs.Walks.{Below, compared_same, compared-parted, below_more}
+use Rattle.verdict.proofs.Walks.{Below}
 use Rattle.verdict.proofs.walk_all.Given as goal
 
 abbrev pub invariant-loop-k : goal.invariant-loop-k

@@ -1,5 +1,4 @@
 -- `place` meets its contract: a module that is judged fine may stand in the crate (`module-good`), and its station is not covered.
-use borrow.Author.Rules.{rules}
 use Rattle.controller.proofs.PlacingLaws.{module-good, module-refused, module-placed, placed-fit}
 use Rattle.controller.proofs.placing.place.Goals as goal
 

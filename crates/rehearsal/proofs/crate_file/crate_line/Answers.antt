@@ -1,7 +1,6 @@
 -- `crate_line` meets its contract: the test of the crate comes first, then the line's reading, then the module.
 use mathlib.Core.Path.{sym, ◌∙◌}
 use borrow.Author.Tests.{not-true, not-false}
-use borrow.Author.Rules.{rules}
 use Rattle.rehearsal.proofs.ModuleLaws.{install-unfit, install-fit, install-bad, install-numbered}
 use Rattle.dataway.proofs.CrateLaws.{crate-facts}
 use Rattle.rehearsal.proofs.crate_file.crate_line.Goals as goal

@@ -2,7 +2,6 @@
 use mathlib.Core.Path.{sym, ◌∙◌}
 use native.Mathlib.Omega.{arith}
 use borrow.Author.Tests.{not-true, not-false}
-use borrow.Author.Rules.{rules}
 use Rattle.rehearsal.proofs.ListLaws.{list-unfit, few-steps, few-answers, few-buffers, list-runs, list-numbered}
 use Rattle.dataway.proofs.CrateLaws.{crate-facts}
 use Rattle.rehearsal.proofs.list.run_list.Goals as goal
@@ -22,13 +21,16 @@ returns-then-buffers-count c = let pair = list-numbered _ _ _ _ _ _ _ _ _ (few-b
     (sym c.is_fit_crate.ensures ∙ not-false _ c.if-not-is_fit_crate.false-raw) c.if-buffers-count.true) in record { ran = pair.0; number = pair.1 }
 
 pub run_steps-requires : goal.run_steps-requires
-run_steps-requires c = record { fit_crate = crate-facts _
+run_steps-requires c = record {
+  fit_crate = crate-facts _
       (sym c.is_fit_crate.ensures
-      ∙ not-false _ c.if-not-is_fit_crate.false-raw); count_in_bounds = (
+      ∙ not-false _ c.if-not-is_fit_crate.false-raw);
+  count_in_bounds = (
     omega (arith, c.if-steps-count.false),
     omega (arith, c.if-answers-count.false),
     omega (arith, c.if-buffers-count.false),
-  ) }
+  );
+}
 
 pub returns : goal.returns
 returns c = let b = c in

@@ -1,7 +1,6 @@
 -- `run_line` meets its contract: the test of the crate comes first, then the line's reading, then the step.
 use mathlib.Core.Path.{sym, ap, ◌∙◌}
 use borrow.Author.Tests.{not-true, not-false}
-use borrow.Author.Rules.{rules}
 use Rattle.rehearsal.proofs.ListLaws.{step-unfit, step_fits, step_words}
 use Rattle.controller.specs.Steps.{order, done_of}
 use Rattle.step.specs.declared.Reading.{Reading}

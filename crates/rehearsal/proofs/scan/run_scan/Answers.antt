@@ -1,5 +1,4 @@
 -- `run_scan` meets its contract: it is `run_step` of a scan, and what that answers tells where the scan has been.
-use borrow.Author.Rules.{rules}
 use Rattle.rehearsal.proofs.ToldLaws.{scan-told}
 use Rattle.rehearsal.proofs.scan.run_scan.Goals as goal
 

@@ -1,7 +1,6 @@
 -- `run_step` meets its contract: the test of the crate gives 9 or the facts that `perform_step` asks for.
 use mathlib.Core.Path.{sym, ◌∙◌}
 use borrow.Author.Tests.{not-true, not-false}
-use borrow.Author.Rules.{rules}
 use Rattle.rehearsal.proofs.ListLaws.{step-unfit, step_fits, step_words}
 use Rattle.dataway.proofs.CrateLaws.{crate-facts}
 use Rattle.rehearsal.proofs.single.run_step.Goals as goal
