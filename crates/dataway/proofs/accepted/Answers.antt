@@ -1,6 +1,5 @@
 -- `accepted` meets its contract: the lent part of the memory is the station's block.
 use native.Mathlib.Omega.{arith}
-use borrow.Author.Rules.{rules}
 use Rattle.blocks.proofs.Blocks.{part-block}
 use Rattle.dataway.proofs.accepted.Goals as goal
 

@@ -1,7 +1,6 @@
 -- `cover_block` meets its contract: the lent block comes back zeroed, and then its cover is stored.
 use native.Mathlib.Omega.{arith}
 use Rattle.dataway.proofs.StationLaws.{cover-lent}
-use borrow.Author.Rules.{rules}
 use Rattle.dataway.proofs.cover_block.Goals as goal
 
 pub returns : goal.returns

@@ -1,6 +1,5 @@
 -- `cycle` meets its contract: the station's own function works on the lent block, and what comes back is the definition's at W = 0 (`command-lent`).
 use native.Mathlib.Omega.{arith}
-use borrow.Author.Rules.{rules}
 use Rattle.dataway.proofs.StationLaws.{command-lent}
 use Rattle.blocks.proofs.Blocks.{part-block}
 use Rattle.dataway.proofs.cycle.Goals as goal

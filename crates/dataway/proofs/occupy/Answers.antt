@@ -1,7 +1,5 @@
 -- `occupy` meets its contract: the module's own block and, where it is two stations wide, the next.
-use native.Mathlib.Omega.{arith}
 use Rattle.dataway.proofs.ModuleLaws.{occupied-two, occupied-one}
-use borrow.Author.Rules.{rules}
 use Rattle.dataway.proofs.occupy.Goals as goal
 
 pub returns-then-held-eq2 : goal.returns-then-held-eq2

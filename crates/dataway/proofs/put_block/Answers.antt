@@ -1,5 +1,4 @@
 -- `put_block` meets its contract: the lent block becomes the module's, whatever it was.
-use borrow.Author.Rules.{rules}
 use Rattle.dataway.proofs.StationLaws.{block-lent}
 use Rattle.station.specs.Control.{module_of}
 use Rattle.dataway.proofs.put_block.Goals as goal

@@ -1,7 +1,6 @@
 -- `send` meets its contract: each arm of the match is a case of `sent_of`.
 use mathlib.Core.Path.{◌∙◌}
 use borrow.Author.Tests.{lt-leb, ne_eqb}
-use borrow.Author.Rules.{rules}
 use Rattle.dataway.specs.Addressed.{sent_of}
 use Rattle.dataway.proofs.AddressLaws.{sent-one}
 use Rattle.dataway.proofs.send.Goals as goal

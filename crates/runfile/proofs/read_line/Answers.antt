@@ -3,7 +3,6 @@
 use mathlib.Core.Path.{◌≡◌, ◌∙◌}
 use mathlib.Core.List.{List}
 use Prim.Native.Nat.{ℕ}
-use borrow.Author.Rules.{rules}
 use Rattle.runfile.specs.Lines.{Reads}
 use Rattle.runfile.specs.Read.{read_line}
 use Rattle.step.specs.declared.Reading.{Reading}
@@ -38,9 +37,12 @@ pub returns-in-108 : goal.returns-in-108
 returns-in-108 c = let entry = c.args in record { value = (both entry.line.now _ (c.read_bare-in-108.ensures ∙ letter-l entry.line.now c.in-108.is)).0; meaning = (both entry.line.now _ (c.read_bare-in-108.ensures ∙ letter-l entry.line.now c.in-108.is)).1 }
 
 pub returns-in-115 : goal.returns-in-115
-returns-in-115 c = let entry = c.args in record { value = (both entry.line.now _ (either c.read_scan.ensures c.read_stop.ensures c.or_else.ensures
-    ∙ letter-s entry.line.now c.in-115.is)).0; meaning = (both entry.line.now _ (either c.read_scan.ensures c.read_stop.ensures c.or_else.ensures
-    ∙ letter-s entry.line.now c.in-115.is)).1 }
+returns-in-115 c = let entry = c.args in record {
+  value = (both entry.line.now _ (either c.read_scan.ensures c.read_stop.ensures c.or_else.ensures
+      ∙ letter-s entry.line.now c.in-115.is)).0;
+  meaning = (both entry.line.now _ (either c.read_scan.ensures c.read_stop.ensures c.or_else.ensures
+      ∙ letter-s entry.line.now c.in-115.is)).1;
+}
 
 pub returns-in-114 : goal.returns-in-114
 returns-in-114 c = let entry = c.args in record { value = (both entry.line.now _ (c.read_repeat.ensures ∙ letter-r entry.line.now c.in-114.is)).0; meaning = (both entry.line.now _ (c.read_repeat.ensures ∙ letter-r entry.line.now c.in-114.is)).1 }
@@ -53,6 +55,9 @@ returns-in-119 c = let entry = c.args in record { value = (both entry.line.now _
 
 pub returns-in_default : goal.returns-in_default
 returns-in_default c = let entry = c.args in
-    let m = c.in_default.in_default-own.rest in record { value = (both entry.line.now _ (other-letter entry.line.now m.0.0.0.0.0.0.0.0.0.1 m.0.0.0.0.0.0.0.0.1 m.0.0.0.0.0.0.0.1 m.0.0.0.0.0.0.1
-    m.0.0.0.0.0.1 m.0.0.0.0.1 m.0.0.0.1 m.0.0.1 m.0.1 m.1)).0; meaning = (both entry.line.now _ (other-letter entry.line.now m.0.0.0.0.0.0.0.0.0.1 m.0.0.0.0.0.0.0.0.1 m.0.0.0.0.0.0.0.1 m.0.0.0.0.0.0.1
-    m.0.0.0.0.0.1 m.0.0.0.0.1 m.0.0.0.1 m.0.0.1 m.0.1 m.1)).1 }
+    let m = c.in_default.in_default-own.rest in record {
+      value = (both entry.line.now _ (other-letter entry.line.now m.0.0.0.0.0.0.0.0.0.1 m.0.0.0.0.0.0.0.0.1 m.0.0.0.0.0.0.0.1 m.0.0.0.0.0.0.1
+          m.0.0.0.0.0.1 m.0.0.0.0.1 m.0.0.0.1 m.0.0.1 m.0.1 m.1)).0;
+      meaning = (both entry.line.now _ (other-letter entry.line.now m.0.0.0.0.0.0.0.0.0.1 m.0.0.0.0.0.0.0.0.1 m.0.0.0.0.0.0.0.1 m.0.0.0.0.0.0.1
+          m.0.0.0.0.0.1 m.0.0.0.0.1 m.0.0.0.1 m.0.0.1 m.0.1 m.1)).1;
+    }

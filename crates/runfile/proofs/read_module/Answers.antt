@@ -1,5 +1,4 @@
 -- `read_module` meets its contract: it is `read_fields`, and every answer of `read_module` claims what `ReadsModule` says.
-use borrow.Author.Rules.{rules}
 use Rattle.runfile.proofs.CrateLines.{reads-module-of}
 use Rattle.runfile.proofs.read_module.Goals as goal
 

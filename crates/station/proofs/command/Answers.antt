@@ -4,7 +4,6 @@ use mathlib.Core.List.{[], ◌∷◌}
 use mathlib.Core.Logic.{⊎_elim}
 use mathlib.Core.Path.{sym, ◌∙◌}
 use borrow.Author.Tests.{not-true, not-false}
-use borrow.Author.Rules.{rules}
 use Rattle.station.proofs.ClassLaws.{below-r, kinds-below-r, below-s, at-group2, at-thirteen, admitted}
 use Rattle.station.proofs.CommandLaws.{command-else}
 use Rattle.station.specs.Command.{functions_of, command_of}

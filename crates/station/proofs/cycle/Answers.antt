@@ -1,7 +1,6 @@
 -- `cycle` meets its contract: outside the span nothing is done (`not_in`); else each arm's function is called below r, and ensures its case of `functions_of`.
 use mathlib.Core.Path.{sym, ◌∙◌}
 use borrow.Author.Tests.{not-true, not-false}
-use borrow.Author.Rules.{rules}
 use Rattle.station.proofs.AcceptedLaws.{read_below, not_in, read-last}
 use Rattle.station.specs.Command.{functions_of, command_of}
 use Rattle.station.proofs.cycle.Goals as goal

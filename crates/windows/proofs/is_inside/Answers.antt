@@ -1,6 +1,5 @@
 -- `is_inside` meets its contract: a register that is not there decides the `&&` of `is_inside`, and for one that is the window does.
 use mathlib.Core.Path.{sym, ◌∙◌}
-use borrow.Author.Rules.{rules}
 use borrow.Author.Tests.{not-true, not-false}
 use Rattle.windows.proofs.WithinLaws.{inside-absent, inside-there}
 use Rattle.windows.proofs.is_inside.Goals as goal

@@ -1,5 +1,4 @@
 -- `is_there` meets its contract: the arm that matched says which kind the block has (`there-some`), and the last that it is none of the three (`there-none`).
-use borrow.Author.Rules.{rules}
 use Rattle.windows.proofs.WithinLaws.{there-some, there-none}
 use Rattle.windows.proofs.is_there.Goals as goal
 

@@ -1,10 +1,9 @@
 -- `list_within` meets its contract: up to number p, what is listed is what was picked, and the words past it are as they were.
-use Prim.Native.Nat.{◌-◌, ◌*◌, ◌≤◌}
+use Prim.Native.Nat.{◌-◌, ◌*◌}
 use mathlib.Core.Path.{◌≡◌, ◌∙◌}
 use native.Mathlib.Omega.{arith}
-use lib.ListN.{length}
 use Rattle.step.specs.Verdict.{places_of}
-use Rattle.windows.specs.Within.{is_inside, picked, listed_in, within_of}
+use Rattle.windows.specs.Within.{is_inside, within_of}
 use Rattle.windows.proofs.WithinLaws.{picked-few, within-next, within-starts, listed-long}
 use Rattle.windows.proofs.list_within.Goals as goal
 

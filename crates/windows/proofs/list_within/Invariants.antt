@@ -1,11 +1,8 @@
 -- `list_within` meets its contract: up to number p, what is listed is what was picked, and the words past it are as they were.
 use Prim.Native.Nat.{◌-◌, ◌*◌, ◌≤◌}
-use mathlib.Core.Path.{◌≡◌, ◌∙◌}
-use native.Mathlib.Omega.{arith}
+use mathlib.Core.Path.{◌≡◌}
 use lib.ListN.{length}
-use Rattle.step.specs.Verdict.{places_of}
-use Rattle.windows.specs.Within.{is_inside, picked, listed_in, within_of}
-use Rattle.windows.proofs.WithinLaws.{picked-few, within-next, within-starts, listed-long}
+use Rattle.windows.specs.Within.{is_inside, picked, listed_in}
 use Rattle.windows.proofs.list_within.Given as goal
 
 abbrev pub invariant-loop-p : goal.invariant-loop-p

@@ -1,5 +1,4 @@
 -- `value` meets its contract: the word that it reads is the register's (`value-at`).
-use borrow.Author.Rules.{rules}
 use Rattle.windows.proofs.WithinLaws.{value-at}
 use Rattle.windows.proofs.value.Goals as goal
 

@@ -1,12 +1,8 @@
 -- `command_many` meets its contract. The loop's invariant: stations 1 to k have had the command, where they are addressed, and `reply` joins their answers.
 use Prim.Native.Nat.{◌-◌, ◌≤◌}
-use mathlib.Core.Path.{◌≡◌, sym, ◌∙◌}
-use native.Mathlib.Omega.{arith}
-use Rattle.dataway.specs.Crate.{FitCrate}
+use mathlib.Core.Path.{◌≡◌}
 use Rattle.dataway.specs.Controls.{each_station}
 use Rattle.dataway.specs.Addressed.{replies_to, command_where}
-use Rattle.dataway.proofs.ControlLaws.{each_long, each_more, each_none}
-use Rattle.dataway.proofs.AddressLaws.{where-kept, many-fit, replies-none, replies-more}
 use Rattle.dataway.proofs.address.command_many.Given as goal
 
 abbrev pub invariant-loop-k : goal.invariant-loop-k

@@ -1,7 +1,6 @@
 -- `common` meets its contract: F26, then A, decide as in the definition.
 use borrow.Author.Tests.{ne_eqb}
 use Rattle.dataway.specs.Addressed.{common_of}
-use borrow.Author.Rules.{rules}
 use Rattle.dataway.proofs.address.common.Goals as goal
 
 pub returns-then-f-ne26 : goal.returns-then-f-ne26

@@ -1,7 +1,6 @@
 -- `internal` meets its contract: A, then F, decide as in the definition.
 use borrow.Author.Tests.{ne_eqb}
 use Rattle.dataway.specs.Addressed.{internal_of}
-use borrow.Author.Rules.{rules}
 use Rattle.dataway.proofs.address.internal.Goals as goal
 
 pub returns-then-f-ne16 : goal.returns-then-f-ne16

@@ -1,10 +1,9 @@
 -- `clear` meets its contract. The loop's invariant: stations 1 to k are cleared. The memory stays fit (`each-fit`), so that the next station's block is.
-use Prim.Native.Nat.{◌+◌, ◌-◌, ◌≤◌}
-use mathlib.Core.Path.{◌≡◌, sym, ap, ◌∙◌}
+use Prim.Native.Nat.{◌+◌}
+use mathlib.Core.Path.{◌≡◌}
 use native.Mathlib.Omega.{arith}
-use lib.ListN.{length}
 use Rattle.dataway.proofs.ControlLaws.{each-fit, each_more, each_none}
-use Rattle.dataway.specs.Controls.{each_station, after_c}
+use Rattle.dataway.specs.Controls.{after_c}
 use Rattle.dataway.specs.Crate.{FitCrate}
 use Rattle.station.specs.Control.{cleared_of}
 use Rattle.station.proofs.ControlLaws.{cleared-kept}

@@ -1,5 +1,4 @@
 -- `clear_station` meets its contract: the lent block comes back cleared.
-use borrow.Author.Rules.{rules}
 use Rattle.dataway.proofs.StationLaws.{block-lent}
 use Rattle.blocks.proofs.Blocks.{part-block}
 use Rattle.station.specs.Control.{cleared_of}

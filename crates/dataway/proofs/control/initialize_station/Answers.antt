@@ -1,5 +1,4 @@
 -- `initialize_station` meets its contract: the lent block comes back initialized.
-use borrow.Author.Rules.{rules}
 use Rattle.dataway.proofs.StationLaws.{block-lent}
 use Rattle.blocks.proofs.Blocks.{part-block}
 use Rattle.station.specs.Control.{initialized_of}

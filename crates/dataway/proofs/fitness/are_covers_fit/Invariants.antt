@@ -1,12 +1,8 @@
 -- `are_covers_fit` meets its contract. The loop's invariant: the covers passed are right.
 use Prim.Native.Nat.{◌≤◌, ◌-◌}
 use mathlib.Core.Bool.{true}
-use mathlib.Core.Path.{◌≡◌, refl, sym, ◌∙◌}
-use native.Mathlib.Omega.{arith}
-use borrow.Author.Tests.{not-true, not-false}
-use borrow.Author.Rules.{rules}
+use mathlib.Core.Path.{◌≡◌}
 use Rattle.dataway.specs.Crate.{is_fit_cover}
-use Rattle.kinds.proofs.TestLaws.{every_more, every-false}
 use Rattle.kinds.specs.Cases.{every}
 use Rattle.dataway.proofs.fitness.are_covers_fit.Given as goal
 

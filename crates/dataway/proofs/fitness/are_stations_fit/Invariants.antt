@@ -1,12 +1,8 @@
 -- `are_stations_fit` meets its contract. The loop's invariant: the stations passed are fit.
 use Prim.Native.Nat.{◌≤◌, ◌-◌}
 use mathlib.Core.Bool.{true}
-use mathlib.Core.Path.{◌≡◌, refl, sym, ◌∙◌}
-use native.Mathlib.Omega.{arith}
-use borrow.Author.Tests.{not-true, not-false}
-use borrow.Author.Rules.{rules}
+use mathlib.Core.Path.{◌≡◌}
 use Rattle.dataway.specs.Crate.{is_fit_station}
-use Rattle.kinds.proofs.TestLaws.{every_more, every-false}
 use Rattle.kinds.specs.Cases.{every}
 use Rattle.dataway.proofs.fitness.are_stations_fit.Given as goal
 

@@ -4,7 +4,6 @@ use mathlib.Core.Path.{◌≡◌}
 use native.Mathlib.Omega.{arith}
 use borrow.Author.Tests.{eq-eqb, ne_eqb}
 use Rattle.dataway.specs.Crate.{is_fit_cover}
-use borrow.Author.Rules.{rules}
 use Rattle.dataway.proofs.fitness.is_fit_cover.Goals as goal
 
 next : (i : ℕ) → 32 * (1 + i) + 7 ≡ 32 * i + 32 + 7

@@ -2,7 +2,6 @@
 -- the code where these tests have been passed.
 use mathlib.Core.Path.{sym, ◌∙◌}
 use borrow.Author.Tests.{ne_eqb, lt-ltb, le-ltb, not-true, not-false}
-use borrow.Author.Rules.{rules}
 use Rattle.dataway.specs.Crate.{is_fit_crate, crate_tests}
 use Rattle.dataway.proofs.CrateLaws.{crate-last}
 use Rattle.dataway.proofs.fitness.is_fit_crate.Goals as goal

@@ -1,7 +1,6 @@
 -- `is_fit_station` meets its contract: the lent part of the memory is the station's block.
 use Prim.Native.Nat.{◌+◌}
 use mathlib.Core.Path.{ap, ◌∙◌}
-use borrow.Author.Rules.{rules}
 use Rattle.dataway.specs.Crate.{is_fit_station}
 use Rattle.station.specs.Block.{is_fit_block}
 use Rattle.blocks.proofs.Blocks.{part-block}

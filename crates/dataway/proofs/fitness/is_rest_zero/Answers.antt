@@ -1,13 +1,9 @@
 -- `is_rest_zero` meets its contract. The loop's invariant: the words passed are zero.
-use Prim.Native.Nat.{◌≤◌, ◌-◌}
-use mathlib.Core.Bool.{true}
-use mathlib.Core.Path.{◌≡◌, refl, sym}
+use mathlib.Core.Path.{sym}
 use native.Mathlib.Omega.{arith}
 use borrow.Author.Tests.{eq-eqb, ne_eqb}
-use borrow.Author.Rules.{rules}
 use Rattle.dataway.specs.Crate.{is_fit_rest}
 use Rattle.kinds.proofs.TestLaws.{every_more, every-false}
-use Rattle.kinds.specs.Cases.{every}
 use Rattle.dataway.proofs.fitness.is_rest_zero.Goals as goal
 
 pub returns-then-memory-i-ne0 : goal.returns-then-memory-i-ne0

@@ -1,12 +1,8 @@
 -- `is_rest_zero` meets its contract. The loop's invariant: the words passed are zero.
 use Prim.Native.Nat.{◌≤◌, ◌-◌}
 use mathlib.Core.Bool.{true}
-use mathlib.Core.Path.{◌≡◌, refl, sym}
-use native.Mathlib.Omega.{arith}
-use borrow.Author.Tests.{eq-eqb, ne_eqb}
-use borrow.Author.Rules.{rules}
+use mathlib.Core.Path.{◌≡◌}
 use Rattle.dataway.specs.Crate.{is_fit_rest}
-use Rattle.kinds.proofs.TestLaws.{every_more, every-false}
 use Rattle.kinds.specs.Cases.{every}
 use Rattle.dataway.proofs.fitness.is_rest_zero.Given as goal
 

@@ -1,10 +1,6 @@
 -- `l_pattern` meets its contract. The loop's invariant: l is the pattern of stations 1 to n. The next station's bit is put above it (`pattern-or`).
-use Prim.Native.Nat.{ℕ, ◌-◌, ◌*◌, ◌%◌, ◌^◌, ◌≤◌}
-use mathlib.Core.Path.{◌≡◌, sym, ap, ap₂, ◌∙◌}
-use native.Mathlib.Omega.{arith}
-use borrow.Author.Rules.{rules}
-use lib.Bits.{bit_or}
-use Rattle.dataway.proofs.LamLaws.{pattern-zero, pattern-or}
+use Prim.Native.Nat.{◌-◌, ◌≤◌}
+use mathlib.Core.Path.{◌≡◌}
 use Rattle.dataway.specs.Lam.{pattern_to}
 use Rattle.dataway.proofs.lam.l_pattern.Given as goal
 

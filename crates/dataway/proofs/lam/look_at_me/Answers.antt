@@ -1,7 +1,4 @@
 -- `look_at_me` meets its contract: the count of ones and the trailing zeros of the pattern are the count and the lowest of the requesting stations.
-use native.Mathlib.Omega.{arith}
-use borrow.Author.Rules.{rules}
-use lib.Count.{trailing_le}
 use Rattle.dataway.proofs.LamLaws.{reading-none, reading-some}
 use Rattle.dataway.proofs.lam.look_at_me.Goals as goal
 

@@ -1,5 +1,4 @@
 -- `request` meets its contract: the two words that it reads are the block's status and mask.
-use borrow.Author.Rules.{rules}
 use Rattle.dataway.proofs.LamLaws.{request-none, request-some}
 use Rattle.dataway.proofs.lam.request.Goals as goal
 

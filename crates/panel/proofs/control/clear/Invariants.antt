@@ -1,13 +1,6 @@
 -- `clear` meets its contract. The loop's invariant: F9 has been done at each A below a. The block stays fit and keeps its r (`cleared-below-kept`), as F9 asks.
 use Prim.Native.Nat.{◌≤◌, ◌-◌}
-use mathlib.Core.Path.{◌≡◌, sym, ap, ◌∙◌}
-use native.Mathlib.Omega.{arith}
-use borrow.Author.Rules.{rules}
-use lib.ListN.{length}
-use Rattle.station.proofs.ControlLaws.{cleared-below-kept, cleared-none, cleared_more}
-use Rattle.station.proofs.KindTable.{count-few}
-use Rattle.station.specs.Block.{count_of}
-use Rattle.station.specs.Command.{functions_of, command_of}
+use mathlib.Core.Path.{◌≡◌}
 use Rattle.station.specs.Control.{cleared_below}
 use Rattle.panel.proofs.control.clear.Given as goal
 

@@ -1,11 +1,7 @@
 -- `are_registers_fit` meets its contract. The loop's invariant: the registers passed are fit.
 use Prim.Native.Nat.{◌≤◌, ◌-◌}
 use mathlib.Core.Bool.{true}
-use mathlib.Core.Path.{◌≡◌, refl, sym, ◌∙◌}
-use native.Mathlib.Omega.{arith}
-use borrow.Author.Tests.{not-true, not-false}
-use borrow.Author.Rules.{rules}
-use Rattle.kinds.proofs.TestLaws.{every_more, every-false}
+use mathlib.Core.Path.{◌≡◌}
 use Rattle.station.specs.Block.{is_fit_register}
 use Rattle.kinds.specs.Cases.{every}
 use Rattle.panel.proofs.fitness.are_registers_fit.Given as goal

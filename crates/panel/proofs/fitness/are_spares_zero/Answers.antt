@@ -1,13 +1,9 @@
 -- `are_spares_zero` meets its contract. The loop's invariant: the words passed are zero.
-use Prim.Native.Nat.{◌≤◌, ◌-◌}
-use mathlib.Core.Bool.{true}
-use mathlib.Core.Path.{◌≡◌, refl, sym}
+use mathlib.Core.Path.{sym}
 use native.Mathlib.Omega.{arith}
 use borrow.Author.Tests.{eq-eqb, ne_eqb}
-use borrow.Author.Rules.{rules}
 use Rattle.kinds.proofs.TestLaws.{every_more, every-false}
 use Rattle.station.specs.Block.{is_fit_spare}
-use Rattle.kinds.specs.Cases.{every}
 use Rattle.panel.proofs.fitness.are_spares_zero.Goals as goal
 
 pub returns-then-b-i-ne0 : goal.returns-then-b-i-ne0

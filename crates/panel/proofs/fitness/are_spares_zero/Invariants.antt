@@ -1,11 +1,7 @@
 -- `are_spares_zero` meets its contract. The loop's invariant: the words passed are zero.
 use Prim.Native.Nat.{◌≤◌, ◌-◌}
 use mathlib.Core.Bool.{true}
-use mathlib.Core.Path.{◌≡◌, refl, sym}
-use native.Mathlib.Omega.{arith}
-use borrow.Author.Tests.{eq-eqb, ne_eqb}
-use borrow.Author.Rules.{rules}
-use Rattle.kinds.proofs.TestLaws.{every_more, every-false}
+use mathlib.Core.Path.{◌≡◌}
 use Rattle.station.specs.Block.{is_fit_spare}
 use Rattle.kinds.specs.Cases.{every}
 use Rattle.panel.proofs.fitness.are_spares_zero.Given as goal

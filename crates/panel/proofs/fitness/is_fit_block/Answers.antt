@@ -1,7 +1,6 @@
 -- `is_fit_block` meets its contract: its tests are those of the definition, in their order; a fit header's head is below 16, as the registers' test asks.
 use mathlib.Core.Path.{sym, ◌∙◌}
 use borrow.Author.Tests.{ne_eqb, not-true, not-false}
-use borrow.Author.Rules.{rules}
 use Rattle.station.proofs.Fitness.{header-head}
 use Rattle.kinds.proofs.TestLaws.{both_true}
 use Rattle.station.specs.Block.{is_fit_block, fit_tests}
@@ -24,8 +23,11 @@ returns-then-not-are_spares_zero c = simp (
 )
 
 pub are_registers_fit-requires : goal.are_registers_fit-requires
-are_registers_fit-requires c = record { fact_1 = c.if-b-ne32.false; fact_2 = header-head c.args.b.now
-      (sym c.is_fit_header.ensures ∙ not-false _ c.if-not-is_fit_header.false-raw) }
+are_registers_fit-requires c = record {
+  fact_1 = c.if-b-ne32.false;
+  fact_2 = header-head c.args.b.now
+      (sym c.is_fit_header.ensures ∙ not-false _ c.if-not-is_fit_header.false-raw);
+}
 
 pub returns : goal.returns
 unfolding is_fit_block fit_tests

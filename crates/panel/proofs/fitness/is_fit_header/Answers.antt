@@ -3,7 +3,6 @@
 use mathlib.Core.Path.{sym, ◌∙◌}
 use native.Mathlib.Omega.{arith}
 use borrow.Author.Tests.{not-true, not-false}
-use borrow.Author.Rules.{rules}
 use Rattle.kinds.proofs.TableLaws.{table-facts}
 use Rattle.station.proofs.Fitness.{header-no-status, header-no-mask, header-no-head, header-no-fill, header-last}
 use Rattle.station.proofs.KindTable.{block-sources-few}

@@ -1,7 +1,6 @@
 -- `is_fit_register` meets its contract: its tests are those of the definition, in their order.
 use mathlib.Core.Path.{sym, ◌∙◌}
 use borrow.Author.Tests.{not-true, not-false}
-use borrow.Author.Rules.{rules}
 use Rattle.station.specs.Block.{is_fit_register}
 use Rattle.panel.proofs.fitness.is_fit_register.Goals as goal
 

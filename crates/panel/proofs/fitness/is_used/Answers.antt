@@ -1,7 +1,5 @@
 -- `is_used` meets its contract: by the kind, the one test or the other.
-use native.Mathlib.Omega.{arith}
 use borrow.Author.Tests.{eq-eqb, ne_eqb}
-use borrow.Author.Rules.{rules}
 use Rattle.station.specs.Block.{is_used}
 use Rattle.panel.proofs.fitness.is_used.Goals as goal
 

@@ -1,8 +1,5 @@
 -- `count` meets its contract: `count24` gives the register's new word and whether the status bit is set, both of the exact sum.
-use mathlib.Core.Path.{sym, ap, ◌∙◌}
-use borrow.Author.Rules.{rules}
-use native.Mathlib.Omega.{arith}
-use lib.ListN.{length, length-set}
+use mathlib.Core.Path.{sym, ◌∙◌}
 use Rattle.station.specs.Front.{counted_of}
 use Rattle.panel.proofs.front.count.Goals as goal
 

@@ -3,7 +3,6 @@ use Prim.Native.Nat.{ℕ, ◌<◌}
 use mathlib.Core.Path.{◌≡◌}
 use mathlib.Core.List.{List}
 use borrow.Author.Tests.{lt-ltb, le-ltb, eq-eqb, ne_eqb}
-use borrow.Author.Rules.{rules}
 use Rattle.kinds.specs.Cases.{case_of}
 use Rattle.station.specs.Block.{kind_of, count_of, status_of}
 use Rattle.station.specs.Front.{rises, digit_of, taken, not_taken, kind_events_of, front_of}

@@ -1,7 +1,4 @@
 -- `hold` meets its contract: the register is stored, then the status bit set.
-use mathlib.Core.Path.{ap, ◌∙◌}
-use borrow.Author.Rules.{rules}
-use lib.ListN.{length, length-set}
 use Rattle.station.specs.Front.{held_of}
 use Rattle.panel.proofs.front.hold.Goals as goal
 

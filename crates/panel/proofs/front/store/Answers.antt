@@ -1,8 +1,5 @@
 -- `store` meets its contract: its test is the definition's, on each side the stores are, and the digit is made of the status before and after.
-use mathlib.Core.Path.{ap, ◌∙◌}
 use borrow.Author.Tests.{lt-ltb, le-ltb}
-use borrow.Author.Rules.{rules}
-use lib.ListN.{length, length-set}
 use Rattle.station.specs.Front.{stored_of}
 use Rattle.panel.proofs.front.store.Goals as goal
 

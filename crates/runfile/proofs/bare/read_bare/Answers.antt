@@ -1,6 +1,5 @@
 -- `bare::read_bare` meets its contract: the test is the definition's.
 use mathlib.Core.Path.{sym, ◌∙◌}
-use borrow.Author.Rules.{rules}
 use Rattle.runfile.specs.Read.{bare_line}
 use Rattle.runfile.proofs.bare.read_bare.Goals as goal
 

@@ -1,13 +1,9 @@
 -- `fields::digits_at` meets its contract: each turn reads one byte of the number, so that going on from there with the digits so far
 -- gives what going on from the start gives; at each return the tests that led there say which case of `digits_from` holds.
 use Prim.Native.Nat.{◌<◌, ◌-◌}
-use mathlib.Core.Path.{◌≡◌, refl, sym, ◌∙◌}
-use native.Mathlib.Omega.{arith}
-use borrow.Author.Rules.{rules}
-use borrow.Author.Tests.{not-true, not-false}
-use lib.ListN.{length, drop, get_or}
+use mathlib.Core.Path.{◌≡◌}
+use lib.ListN.{length, drop}
 use Rattle.runfile.specs.Read.{digits_from}
-use Rattle.runfile.proofs.Turns.{digit-byte, open-bounds, digits-stop, digits-full, digits_more, digits-end}
 use Rattle.runfile.proofs.fields.digits_at.Given as goal
 
 abbrev pub invariant-loop-i : goal.invariant-loop-i

@@ -1,14 +1,9 @@
 -- `fields::field_at` meets its contract: the test at the front leaves out the lines that end before or with the key. Each turn then reads one
 -- byte of the key, so that what is left of the key and of the line gives what the whole of both gives.
-use Prim.Native.Nat.{ℕ, ◌+◌, ◌-◌, ◌≤◌, ◌<◌}
-use mathlib.Core.Path.{◌≡◌, sym, ap, ◌∙◌}
-use mathlib.Core.Logic.{⊎_elim}
-use native.Mathlib.Omega.{arith}
-use borrow.Author.Rules.{rules}
-use borrow.Author.Tests.{leb-true, leb-false}
+use Prim.Native.Nat.{◌+◌, ◌-◌, ◌≤◌, ◌<◌}
+use mathlib.Core.Path.{◌≡◌}
 use lib.ListN.{length, drop}
 use Rattle.runfile.specs.Read.{read_field}
-use Rattle.runfile.proofs.Turns.{field-done, field_end, field-other, field-same}
 use Rattle.runfile.proofs.fields.field_at.Given as goal
 
 abbrev pub invariant-loop-j : goal.invariant-loop-j

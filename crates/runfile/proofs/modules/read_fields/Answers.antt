@@ -1,6 +1,5 @@
 -- `modules::read_fields` meets its contract: at each return, what the calls found says which case of the definition holds.
 use mathlib.Core.Path.{◌∙◌}
-use borrow.Author.Rules.{rules}
 use Rattle.runfile.specs.Read.{read_module}
 use Rattle.runfile.proofs.Found.{was-absent, was-taken}
 use Rattle.runfile.proofs.modules.read_fields.Goals as goal

@@ -1,6 +1,5 @@
 -- `transfers::read_stop` meets its contract: at each return, what the calls found says which case of the definition holds.
 use mathlib.Core.Path.{◌∙◌}
-use borrow.Author.Rules.{rules}
 use Rattle.text.specs.Text.{bytes}
 use Rattle.runfile.specs.Read.{stop_line}
 use Rattle.runfile.proofs.Found.{was-absent, was-headless, was-heads, headed, was-taken}

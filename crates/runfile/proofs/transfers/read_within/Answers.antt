@@ -1,6 +1,5 @@
 -- `transfers::read_within` meets its contract: at each return, what the calls found says which case of the definition holds.
 use mathlib.Core.Path.{◌∙◌}
-use borrow.Author.Rules.{rules}
 use Rattle.runfile.specs.Read.{within_line}
 use Rattle.runfile.proofs.Found.{was-absent, was-taken}
 use Rattle.runfile.proofs.transfers.read_within.Goals as goal

@@ -1,5 +1,4 @@
 -- `sources` meets its contract: the table's sources, at the kind and the r that the block holds.
-use borrow.Author.Rules.{rules}
 use Rattle.station.specs.Block.{sources_of}
 use Rattle.station.proofs.block.sources.Goals as goal
 

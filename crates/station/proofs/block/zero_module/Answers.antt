@@ -1,7 +1,5 @@
 -- `zero_module` meets its contract: words 2 to 5 are stored, and the part from word 16 on comes back all zero.
 use mathlib.Core.Path.{◌∙◌}
-use native.Mathlib.Omega.{arith}
-use borrow.Author.Rules.{rules}
 use lib.ListN.{length-set}
 use Rattle.station.proofs.BlockLaws.{tail-zeroed, header-zeroed}
 use Rattle.station.specs.Block.{with_status, with_mask, with_head, with_fill}

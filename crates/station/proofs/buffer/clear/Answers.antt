@@ -1,5 +1,4 @@
 -- `clear` meets its contract: it zeroes the module, with status bit 0 cleared and the mask as it was.
-use borrow.Author.Rules.{rules}
 use Rattle.station.specs.Buffer.{buffer_clear_of}
 use Rattle.station.proofs.buffer.clear.Goals as goal
 

@@ -1,8 +1,5 @@
 -- `drop_oldest` meets its contract: the stores are those of the definition, and status bit 0 is cleared where fill was 1.
-use native.Mathlib.Omega.{arith}
 use borrow.Author.Tests.{eq-eqb, ne_eqb}
-use borrow.Author.Rules.{rules}
-use lib.ListN.{length-set}
 use Rattle.station.specs.Buffer.{without_oldest}
 use Rattle.station.proofs.buffer.drop_oldest.Goals as goal
 

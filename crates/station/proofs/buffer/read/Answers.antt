@@ -1,6 +1,5 @@
 -- `read` meets its contract: the test that returns is that of the definition, and the last word is the one at head.
 use borrow.Author.Tests.{eq-eqb, ne_eqb}
-use borrow.Author.Rules.{rules}
 use Rattle.station.specs.Buffer.{buffer_read_of}
 use Rattle.station.proofs.buffer.read.Goals as goal
 

@@ -1,6 +1,5 @@
 -- `read_and_clear` meets its contract: the word at head is read before `drop_oldest` takes it out.
 use borrow.Author.Tests.{eq-eqb, ne_eqb}
-use borrow.Author.Rules.{rules}
 use Rattle.station.specs.Buffer.{buffer_read_and_clear_of}
 use Rattle.station.proofs.buffer.read_and_clear.Goals as goal
 

@@ -1,6 +1,5 @@
 -- `read_complement` meets its contract, as `read` does; the word at head is below 2^24 in a fit block, so that it has a complement.
 use borrow.Author.Tests.{eq-eqb, ne_eqb}
-use borrow.Author.Rules.{rules}
 use Rattle.station.specs.Buffer.{buffer_read_complement_of}
 use Rattle.station.proofs.buffer.read_complement.Goals as goal
 

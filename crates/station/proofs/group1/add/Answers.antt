@@ -1,8 +1,5 @@
 -- `add` meets its contract: the register gets the sum, and the status bit is set where `add24` gives a carry.
-use mathlib.Core.Path.{sym, ◌∙◌, ap}
-use borrow.Author.Rules.{rules}
-use native.Mathlib.Omega.{arith}
-use lib.ListN.{length, length-set}
+use mathlib.Core.Path.{sym, ◌∙◌}
 use Rattle.station.specs.Group1.{added_of}
 use Rattle.station.proofs.group1.add.Goals as goal
 

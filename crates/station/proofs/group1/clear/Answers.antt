@@ -1,6 +1,5 @@
 -- `clear` meets its contract: a buffer memory has its own rule; of another module the register is zeroed.
 use borrow.Author.Tests.{eq-eqb, ne_eqb, lt-ltb}
-use borrow.Author.Rules.{rules}
 use Rattle.station.proofs.ClassLaws.{buffer-first}
 use Rattle.station.proofs.KindTable.{register-kind}
 use Rattle.station.specs.Group1.{clear_of}

@@ -1,6 +1,5 @@
 -- `execute` meets its contract: kind and A are as its definition asks, and `add` adds one.
 use borrow.Author.Tests.{lt-ltb}
-use borrow.Author.Rules.{rules}
 use Rattle.station.specs.Group1.{execute_of}
 use Rattle.station.proofs.group1.execute.Goals as goal
 

@@ -1,6 +1,5 @@
 -- `overwrite` meets its contract: kind and A are as its definition asks, and the register gets w.
 use borrow.Author.Tests.{lt-ltb}
-use borrow.Author.Rules.{rules}
 use Rattle.station.specs.Group1.{overwrite_of}
 use Rattle.station.proofs.group1.overwrite.Goals as goal
 

@@ -1,6 +1,5 @@
 -- `read` meets its contract: a buffer memory has its own rule, at A0; of a fit block any other module with a register A is of a kind that F0 reads.
 use borrow.Author.Tests.{eq-eqb, ne_eqb, lt-ltb}
-use borrow.Author.Rules.{rules}
 use Rattle.station.proofs.ClassLaws.{buffer-first}
 use Rattle.station.proofs.KindTable.{register-kind}
 use Rattle.station.specs.Group1.{read_of}

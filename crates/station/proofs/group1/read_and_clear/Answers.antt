@@ -1,6 +1,5 @@
 -- `read_and_clear` meets its contract: a buffer memory has its own rule; of another module the register is read, then zeroed.
 use borrow.Author.Tests.{eq-eqb, ne_eqb, lt-ltb}
-use borrow.Author.Rules.{rules}
 use Rattle.station.proofs.ClassLaws.{buffer-first}
 use Rattle.station.proofs.KindTable.{register-kind}
 use Rattle.station.specs.Group1.{read_and_clear_of}

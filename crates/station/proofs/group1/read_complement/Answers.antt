@@ -1,6 +1,5 @@
 -- `read_complement` meets its contract, as `read` does; a register of a fit block is below 2^24, so that it has a complement.
 use borrow.Author.Tests.{eq-eqb, ne_eqb, lt-ltb}
-use borrow.Author.Rules.{rules}
 use Rattle.station.proofs.ClassLaws.{buffer-first}
 use Rattle.station.proofs.KindTable.{register-kind}
 use Rattle.station.specs.Group1.{read_complement_of}

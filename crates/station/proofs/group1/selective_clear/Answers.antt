@@ -1,6 +1,5 @@
 -- `selective_clear` meets its contract: kind and A are as its definition asks, and the register gets what `clear_bits` gives.
 use borrow.Author.Tests.{lt-ltb}
-use borrow.Author.Rules.{rules}
 use Rattle.station.specs.Group1.{selective_clear_of}
 use Rattle.station.proofs.group1.selective_clear.Goals as goal
 

@@ -1,6 +1,5 @@
 -- `selective_set` meets its contract: kind and A are as its definition asks, and the register gets what `set_bits` gives.
 use borrow.Author.Tests.{lt-ltb}
-use borrow.Author.Rules.{rules}
 use Rattle.station.specs.Group1.{selective_set_of}
 use Rattle.station.proofs.group1.selective_set.Goals as goal
 

@@ -1,6 +1,5 @@
 -- `clear` meets its contract: there are sources, each arm of its match is a case of the definition, and the last is A13.
 use borrow.Author.Tests.{lt-ltb}
-use borrow.Author.Rules.{rules}
 use Rattle.acceptance.proofs.AdmitLaws.{is-second}
 use Rattle.station.specs.Group2.{group2, clear_group2_of}
 use Rattle.station.proofs.group2.clear.Goals as goal

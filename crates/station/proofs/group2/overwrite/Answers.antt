@@ -1,6 +1,5 @@
 -- `overwrite` meets its contract: there are sources, and the mask gets the bits of w below s.
 use borrow.Author.Tests.{lt-ltb}
-use borrow.Author.Rules.{rules}
 use Rattle.station.specs.Group2.{group2, overwrite_group2_of}
 use Rattle.station.proofs.group2.overwrite.Goals as goal
 

@@ -1,6 +1,5 @@
 -- `read` meets its contract: there are sources, each arm of its match is a case of the definition, and the last is A14.
 use borrow.Author.Tests.{lt-ltb}
-use borrow.Author.Rules.{rules}
 use Rattle.acceptance.proofs.AdmitLaws.{is-third}
 use Rattle.station.specs.Group2.{group2, read_group2_of}
 use Rattle.station.proofs.group2.read.Goals as goal

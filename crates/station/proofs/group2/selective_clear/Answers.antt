@@ -1,6 +1,5 @@
 -- `selective_clear` meets its contract: there are sources, each arm of its match is a case of the definition, with the bits of w below s, and the last is A13.
 use borrow.Author.Tests.{lt-ltb}
-use borrow.Author.Rules.{rules}
 use Rattle.acceptance.proofs.AdmitLaws.{is-second}
 use Rattle.station.specs.Group2.{group2, selective_clear_group2_of}
 use Rattle.station.proofs.group2.selective_clear.Goals as goal

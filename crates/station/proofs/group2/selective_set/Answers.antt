@@ -1,6 +1,5 @@
 -- `selective_set` meets its contract: there are sources, and the mask gets the bits of w below s besides its own.
 use borrow.Author.Tests.{lt-ltb}
-use borrow.Author.Rules.{rules}
 use Rattle.station.specs.Group2.{group2, selective_set_group2_of}
 use Rattle.station.proofs.group2.selective_set.Goals as goal
 

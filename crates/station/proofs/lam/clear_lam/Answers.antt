@@ -1,6 +1,5 @@
 -- `clear_lam` meets its contract: A is below s, and the status gets what `without_bit` gives.
 use borrow.Author.Tests.{lt-ltb}
-use borrow.Author.Rules.{rules}
 use Rattle.station.specs.Lam.{clear_lam_of}
 use Rattle.station.proofs.lam.clear_lam.Goals as goal
 

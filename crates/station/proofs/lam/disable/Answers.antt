@@ -1,6 +1,5 @@
 -- `disable` meets its contract: A is below s, and the mask gets what `without_bit` gives.
 use borrow.Author.Tests.{lt-ltb}
-use borrow.Author.Rules.{rules}
 use Rattle.station.specs.Lam.{disable_of}
 use Rattle.station.proofs.lam.disable.Goals as goal
 

@@ -1,6 +1,5 @@
 -- `enable` meets its contract: A is below s, and the mask gets what `with_bit` gives.
 use borrow.Author.Tests.{lt-ltb}
-use borrow.Author.Rules.{rules}
 use Rattle.station.specs.Lam.{enable_of}
 use Rattle.station.proofs.lam.enable.Goals as goal
 

@@ -1,5 +1,4 @@
 -- `test_lam` meets its contract: it tests status AND mask.
-use borrow.Author.Rules.{rules}
 use Rattle.station.specs.Lam.{test_lam_of}
 use Rattle.station.proofs.lam.test_lam.Goals as goal
 

@@ -1,5 +1,4 @@
 -- `test_status` meets its contract: it tests the status.
-use borrow.Author.Rules.{rules}
 use Rattle.station.specs.Lam.{test_status_of}
 use Rattle.station.proofs.lam.test_status.Goals as goal
 

@@ -2,10 +2,8 @@
 -- (`PuttingFrom`). Each way that a turn goes is a way of the definition: Q = 0 and A15 go on to the next station, Q = 1 to the next subaddress and the
 -- next word; the inner loop's turns are put on the outer loop's (`putting-on`). The loop left from inside is end 1, and past `to` is end 2.
 -- Assumes nothing.
-use mathlib.Core.Path.{◌≡◌, refl}
-use Prim.Native.Nat.{◌+◌, ◌-◌}
 use native.Mathlib.Omega.{arith}
-use Rattle.transfer.proofs.Putting.{PuttingFrom, wrote, putting-here, putting-on, put-past, put-miss, put-more, put_last, put_full, put-size}
+use Rattle.transfer.proofs.Putting.{wrote, putting-on, put-past, put-miss, put-more, put_last, put_full}
 use Rattle.transfer.proofs.put.put.Goals as goal
 use Rattle.transfer.proofs.put.put.Goals.{then-reply-ne1, else-reply-ne1+else-words-limit+then-subaddress-eq-LAST_SUBADDRESS}
 
@@ -23,9 +21,10 @@ stations-preserved c = let x = c.command-reply in
     let l = c.loop-subaddress.invariant in
     let g = putting-on o l.0 in
     elim c.if-reply-ne1.branch [
-      then-reply-ne1 w ↦ rw w.words-is (put-miss g (omega arith) d w.if-reply-ne1.true, l.1)
-    | else-reply-ne1+else-words-limit+then-subaddress-eq-LAST_SUBADDRESS w ↦
-      rw w.words-is (put_last g (omega arith) d w.if-reply-ne1.false w.if-words-limit.false w.if-subaddress-eq-LAST_SUBADDRESS.true, l.1) ]
+      | then-reply-ne1 w ↦ rw w.words-is (put-miss g (omega arith) d w.if-reply-ne1.true, l.1)
+      | else-reply-ne1+else-words-limit+then-subaddress-eq-LAST_SUBADDRESS w ↦
+          rw w.words-is (put_last g (omega arith) d w.if-reply-ne1.false w.if-words-limit.false w.if-subaddress-eq-LAST_SUBADDRESS.true, l.1)
+    ]
 
 -- past `to`
 pub returns-after-stations : goal.returns-after-stations

@@ -2,11 +2,9 @@
 -- (`PuttingFrom`). Each way that a turn goes is a way of the definition: Q = 0 and A15 go on to the next station, Q = 1 to the next subaddress and the
 -- next word; the inner loop's turns are put on the outer loop's (`putting-on`). The loop left from inside is end 1, and past `to` is end 2.
 -- Assumes nothing.
-use mathlib.Core.Path.{◌≡◌, refl}
-use mathlib.Core.Logic.{⊎_elim}
+use mathlib.Core.Path.{◌≡◌}
 use Prim.Native.Nat.{◌+◌, ◌-◌}
-use native.Mathlib.Omega.{arith}
-use Rattle.transfer.proofs.Putting.{PuttingFrom, wrote, putting-here, putting-on, put-past, put-miss, put-more, put_last, put_full, put-size}
+use Rattle.transfer.proofs.Putting.{PuttingFrom}
 use Rattle.transfer.proofs.put.put.Given as goal
 
 abbrev pub invariant-loop-subaddress : goal.invariant-loop-subaddress

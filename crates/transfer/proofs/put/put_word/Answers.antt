@@ -1,8 +1,7 @@
 -- `put_word` meets its contract: what it offers is `limit` words, each w.
 -- Assumes nothing.
-use mathlib.Core.Path.{refl, sym}
+use mathlib.Core.Path.{refl}
 use native.Mathlib.Omega.{arith}
-use borrow.Author.Rules.{rules}
 use Rattle.transfer.proofs.Putting.{same-offered}
 use Rattle.transfer.proofs.put.put_word.Goals as goal
 

@@ -1,16 +1,10 @@
 -- `repeat` meets its contract. The loop's invariant: the Repeat comes to what it is to come to from where it stands, with the tries that are left
 -- (`Repeating`); and the span is that of the station. A cycle keeps it so; the limit reached, X = 0, or no try left, is an end of the definition.
 -- Assumes nothing.
-use mathlib.Core.Path.{◌≡◌, ap}
-use mathlib.Core.List.{[]}
-use Prim.Native.Nat.{ℕ, ◌-◌}
-use native.Mathlib.Omega.{arith}
-use Rattle.station.proofs.AcceptedLaws.{read-few}
+use Prim.Native.Nat.{◌-◌}
 use Rattle.dataway.specs.Stations.{AcceptsAt}
-use Rattle.transfer.specs.Cycle.{reads}
-use Rattle.transfer.specs.Repeat.{repeat_of, repeat_from}
-use Rattle.transfer.proofs.Lent.{lent-here, lent-kept, lent-put, still-accepts, made}
-use Rattle.transfer.proofs.Repeating.{Repeating, repeating-over, repeating-fault, repeating-miss, repeating-hit, repeating-full}
+use Rattle.transfer.specs.Repeat.{repeat_of}
+use Rattle.transfer.proofs.Repeating.{Repeating}
 use Rattle.transfer.proofs.repeat.repeat.Given as goal
 
 abbrev pub invariant-loop-cycles : goal.invariant-loop-cycles

@@ -2,13 +2,9 @@
 -- (`GoingFrom`); in the inner one the span is that of the station. Each way that a turn goes is a way of the definition: Q = 0 and A15 go on to the next station, Q = 1 to the next subaddress; the
 -- inner loop's turns are put on the outer loop's (`going_on`). The loop left from inside is end 1, and past `to` is end 2.
 -- Assumes nothing.
-use mathlib.Core.Path.{◌≡◌, refl}
-use Prim.Native.Nat.{◌+◌, ◌-◌}
 use native.Mathlib.Omega.{arith}
-use Rattle.station.proofs.AcceptedLaws.{read-few}
-use Rattle.dataway.specs.Stations.{AcceptsAt}
-use Rattle.transfer.proofs.Lent.{lent-put, lent-words, still-accepts, made}
-use Rattle.transfer.proofs.Going.{GoingFrom, going-here, going_on, go-miss, go-more, go-last, go-full, go-past}
+use Rattle.transfer.proofs.Lent.{still-accepts, made}
+use Rattle.transfer.proofs.Going.{going_on, go-miss, go-more, go-last, go-full, go-past}
 use Rattle.transfer.proofs.scan.scan.Goals as goal
 use Rattle.transfer.proofs.scan.scan.Goals.{then-reply-ne1, else-reply-ne1+else-words-limit+then-subaddress-eq-LAST_SUBADDRESS}
 
@@ -31,9 +27,10 @@ stations-preserved c = let p = c.requires.le_n in
     let l = c.loop-span.invariant in
     let g = going_on o l.0 in
     elim c.if-reply-ne1.branch [
-      then-reply-ne1 w ↦ rw (w.buffer-is, w.words-is) (go-miss g (omega (arith, p)) (omega (arith, p)) d w.if-reply-ne1.true, l.1)
-    | else-reply-ne1+else-words-limit+then-subaddress-eq-LAST_SUBADDRESS w ↦
-      rw (w.buffer-is, w.words-is) (go-last g (omega (arith, p)) (omega (arith, p)) d w.if-reply-ne1.false w.if-words-limit.false w.if-subaddress-eq-LAST_SUBADDRESS.true, l.1) ]
+      | then-reply-ne1 w ↦ rw (w.buffer-is, w.words-is) (go-miss g (omega (arith, p)) (omega (arith, p)) d w.if-reply-ne1.true, l.1)
+      | else-reply-ne1+else-words-limit+then-subaddress-eq-LAST_SUBADDRESS w ↦
+          rw (w.buffer-is, w.words-is) (go-last g (omega (arith, p)) (omega (arith, p)) d w.if-reply-ne1.false w.if-words-limit.false w.if-subaddress-eq-LAST_SUBADDRESS.true, l.1)
+    ]
 
 -- past `to`
 pub returns-after-stations : goal.returns-after-stations

@@ -2,14 +2,10 @@
 -- (`GoingFrom`); in the inner one the span is that of the station. Each way that a turn goes is a way of the definition: Q = 0 and A15 go on to the next station, Q = 1 to the next subaddress; the
 -- inner loop's turns are put on the outer loop's (`going_on`). The loop left from inside is end 1, and past `to` is end 2.
 -- Assumes nothing.
-use mathlib.Core.Path.{◌≡◌, refl}
-use mathlib.Core.Logic.{⊎_elim}
+use mathlib.Core.Path.{◌≡◌}
 use Prim.Native.Nat.{◌+◌, ◌-◌}
-use native.Mathlib.Omega.{arith}
-use Rattle.station.proofs.AcceptedLaws.{read-few}
 use Rattle.dataway.specs.Stations.{AcceptsAt}
-use Rattle.transfer.proofs.Lent.{lent-put, lent-words, still-accepts, made}
-use Rattle.transfer.proofs.Going.{GoingFrom, going-here, going_on, go-miss, go-more, go-last, go-full, go-past}
+use Rattle.transfer.proofs.Going.{GoingFrom}
 use Rattle.transfer.proofs.scan.scan.Given as goal
 
 abbrev pub invariant-loop-span : goal.invariant-loop-span

@@ -1,7 +1,6 @@
 -- `flag_sheet` meets its contract: it is refused as the verdict says, or the pass is made; then `each-window` holds of the flag words that it left.
 use mathlib.Core.Path.{sym, ◌∙◌}
 use native.Mathlib.Omega.{arith}
-use borrow.Author.Rules.{rules}
 use Rattle.windows.proofs.SheetLaws.{sheet-fine, sheet-refused, sheet-flagged, each-window, refused-flagged}
 use Rattle.windows.proofs.sheets.flag_sheet.Goals as goal
 

@@ -1,7 +1,7 @@
 -- `flag_windows` meets its contract: after i registers `Pass` says which words are written and how many registers were read.
-use Prim.Native.Nat.{ℕ, ◌-◌, ◌*◌, ◌≤◌}
+use Prim.Native.Nat.{◌*◌}
 use native.Mathlib.Omega.{arith}
-use Rattle.windows.proofs.FlagLaws.{Pass, pass-starts, pass-next, pass-few, pass-long, pass-one, pass-ends}
+use Rattle.windows.proofs.FlagLaws.{pass-starts, pass-next, pass-few, pass-one, pass-ends}
 use Rattle.windows.proofs.sheets.flag_windows.Goals as goal
 
 pub loop-p-init : goal.loop-p-init

@@ -1,7 +1,6 @@
 -- `flag_windows` meets its contract: after i registers `Pass` says which words are written and how many registers were read.
-use Prim.Native.Nat.{ℕ, ◌-◌, ◌*◌, ◌≤◌}
-use native.Mathlib.Omega.{arith}
-use Rattle.windows.proofs.FlagLaws.{Pass, pass-starts, pass-next, pass-few, pass-long, pass-one, pass-ends}
+use Prim.Native.Nat.{◌-◌, ◌*◌, ◌≤◌}
+use Rattle.windows.proofs.FlagLaws.{Pass}
 use Rattle.windows.proofs.sheets.flag_windows.Given as goal
 
 abbrev pub invariant-loop-p : goal.invariant-loop-p

@@ -1,8 +1,7 @@
 -- `flag_word` meets its contract: after i windows the flags are the word of their tests, and `bits-or` puts the next bit in its place.
-use Prim.Native.Nat.{ℕ, ◌-◌, ◌*◌, ◌%◌, ◌^◌, ◌≤◌}
-use mathlib.Core.Path.{◌≡◌, refl, ap, ap₂, ◌∙◌}
+use Prim.Native.Nat.{ℕ, ◌*◌, ◌%◌, ◌^◌}
+use mathlib.Core.Path.{refl, ap₂, ◌∙◌}
 use native.Mathlib.Omega.{arith}
-use borrow.Author.Rules.{rules}
 use lib.Bits.{bit_or}
 use Rattle.word24.specs.Word.{bits_of}
 use Rattle.word24.proofs.BitsOf.{bits-or}

@@ -1,11 +1,7 @@
 -- `flag_word` meets its contract: after i windows the flags are the word of their tests, and `bits-or` puts the next bit in its place.
-use Prim.Native.Nat.{ℕ, ◌-◌, ◌*◌, ◌%◌, ◌^◌, ◌≤◌}
-use mathlib.Core.Path.{◌≡◌, refl, ap, ap₂, ◌∙◌}
-use native.Mathlib.Omega.{arith}
-use borrow.Author.Rules.{rules}
-use lib.Bits.{bit_or}
+use Prim.Native.Nat.{◌-◌, ◌≤◌}
+use mathlib.Core.Path.{◌≡◌}
 use Rattle.word24.specs.Word.{bits_of}
-use Rattle.word24.proofs.BitsOf.{bits-or}
 use Rattle.step.specs.Verdict.{within}
 use Rattle.windows.specs.Flags.{low_of, high_of}
 use Rattle.windows.proofs.sheets.flag_word.Given as goal

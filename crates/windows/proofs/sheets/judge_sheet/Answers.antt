@@ -1,5 +1,4 @@
 -- `judge_sheet` meets its contract: what its calls promise, put into one another, is the list of rows of `sheet_verdict` (`sheet-rows`).
-use borrow.Author.Rules.{rules}
 use Rattle.windows.proofs.SheetLaws.{sheet-rows}
 use Rattle.windows.proofs.sheets.judge_sheet.Goals as goal
 

@@ -1,13 +1,11 @@
 -- `windows_then` meets its contract: after i good windows the verdict on the sheet is that on its rest (`windows-next`); a bad one decides (`windows-bad`).
-use Prim.Native.Nat.{ℕ, ◌-◌, ◌≤◌}
 use mathlib.Core.Path.{sym, ap, ◌∙◌}
 use native.Mathlib.Omega.{arith}
-use borrow.Author.Rules.{rules}
 use Rattle.step.specs.Verdict.{is_fine}
 use Rattle.step.specs.declared.Verdict.TheVariants.{Fine}
 use Rattle.step.proofs.Fine.{window-fine}
 use Rattle.windows.specs.Flags.{low_of, high_of}
-use Rattle.windows.proofs.SheetLaws.{Past, windows-start, windows-next, windows-bad, windows-end}
+use Rattle.windows.proofs.SheetLaws.{windows-next, windows-bad, windows-end}
 use Rattle.windows.proofs.sheets.windows_then.Goals as goal
 
 pub returns-in-Refuse : goal.returns-in-Refuse
