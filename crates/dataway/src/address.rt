@@ -65,6 +65,7 @@ pub fn command_many(memory: &mut [u32], pattern: u32, a: u32, f: u32, w: u32) ->
 }
 
 // N28: Z at A8 and C at A9, both F26.
+#[tactic(auto, unfolding(crate::specs::Addressed::common_of))]
 pub fn common(memory: &mut [u32], a: u32, f: u32) -> Reply
     requires { FitCrate memory.old }
     ensures { common_of memory.entry.now a f ≡ record { memory = memory.exit.now; reply = result } }

@@ -53,6 +53,7 @@ fn are_stations_fit(memory: &[u32]) -> bool
 }
 
 // The cover of station 1 + i: block i is its left neighbour.
+#[tactic(auto, unfolding(crate::specs::Crate::is_fit_cover))]
 fn is_fit_cover(memory: &[u32], i: usize) -> bool
     requires fact_1 { length memory.now ≡ 768 }
     requires fact_2 { i < 23 }

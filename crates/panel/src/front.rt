@@ -63,6 +63,7 @@ fn count(b: &mut [u32], a: u32, v: u32)
 }
 
 // A buffer memory stores v behind its newest word; when it is full, v is lost. Gives the digit.
+#[tactic(auto, unfolding(station::specs::Front::stored_of))]
 fn store(b: &mut [u32], v: u32) -> u32
     requires { FitBlock b.old }
     ensures { stored_of b.old v ≡ record { block = b.new; taken = result } }

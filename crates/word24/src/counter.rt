@@ -21,6 +21,7 @@ pub struct Counted {
 }
 
 // A word read as a signed number.
+#[tactic(auto, unfolding(crate::specs::Counter::signed_of))]
 pub fn signed24(x: u32) -> i32
     requires { x < 2 ^ 24 }
     ensures { result ≡ signed_of x }
