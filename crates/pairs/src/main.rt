@@ -56,10 +56,8 @@ fn compare_all<R: Files + Print>(
 )
     requires { (length line.old ≡ 81) × (length first.old ≡ 599994) × (length second.old ≡ 599994) × (4096 ≤ length out.old) }
 {
-    let mut k: u8 = 1;
-    while k <= CASES {
+    for k in 1..=CASES {
         compare_pair(rt, err, k, text, line, first, second, out);
-        k += 1;
     }
 }
 

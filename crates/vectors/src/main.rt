@@ -59,10 +59,8 @@ fn without_arguments<R: Files + Env + Print>(rt: &R, err: &impl Print) {
 
 fn main(rt: HostRuntime) {
     let err = rt.stderr();
-    let mut k: u8 = 1;
-    while k <= CASES {
+    for k in 1..=CASES {
         scenario(&rt, &err, k);
-        k += 1;
     }
     without_arguments(&rt, &err);
 }
