@@ -1,6 +1,4 @@
 -- A turn with room takes some bytes more: these follow those that were taken before.
-use mathlib.Core.Bool.{true}
-use mathlib.Core.Path.{◌≡◌}
 use native.Mathlib.Omega.{arith}
 use borrow.Author.Tests.{not-false}
 use Rattle.reader.proofs.Whole.{took-both, took-as, took-kept}
