@@ -75,8 +75,7 @@ fn run_words(memory: &mut [u32], words: &[u32], buffer: &mut [u32]) -> Answer
 }
 
 // One step, lent as six words, with four words for its answer: 9, then 8 where too few are lent for either, else as the step.
-#[unsafe(no_mangle)]
-pub extern "C" fn pagontxu_step(
+pub fn pagontxu_step(
     memory: &mut [u32],
     step: &[u32],
     answer: &mut [u32],
@@ -98,8 +97,7 @@ pub extern "C" fn pagontxu_step(
 }
 
 // One line of a run file, with four words for its answer: 9, then 8 where fewer are lent, else as the line.
-#[unsafe(no_mangle)]
-pub extern "C" fn pagontxu_run_line(
+pub fn pagontxu_run_line(
     memory: &mut [u32],
     line: &[u8],
     answer: &mut [u32],
@@ -115,16 +113,14 @@ pub extern "C" fn pagontxu_run_line(
 }
 
 // One line of a crate file, after a line for the station `previous` (0 before the first).
-#[unsafe(no_mangle)]
-pub extern "C" fn pagontxu_crate_line(memory: &mut [u32], previous: u32, line: &[u8]) -> u32
+pub fn pagontxu_crate_line(memory: &mut [u32], previous: u32, line: &[u8]) -> u32
     ensures { crate_call memory.old previous line.now ≡ record { number = result; memory = memory.new } }
 {
     verdict_number(rehearsal::crate_line(memory, previous, line))
 }
 
 // A list of `count` steps, six words each, with four words of answer and 512 words of buffer a step.
-#[unsafe(no_mangle)]
-pub extern "C" fn pagontxu_list(
+pub fn pagontxu_list(
     memory: &mut [u32],
     count: usize,
     steps: &[u32],
@@ -158,8 +154,7 @@ fn flagging_count(flagging: Flagging, before: u32) -> u32
 }
 
 // A sheet of up to 64 windows over stations n to `to`, with 16 flag words a station and a word for the count of registers read.
-#[unsafe(no_mangle)]
-pub extern "C" fn pagontxu_windows(
+pub fn pagontxu_windows(
     memory: &[u32],
     n: u32,
     to: u32,

@@ -2,7 +2,7 @@
 -- after the other in any order.
 -- Assumes nothing.
 use Prim.Native.Nat.{ℕ, zero, suc, ◌+◌, ◌≤◌, ◌<◌, ◌^◌, max}
-use mathlib.Core.Path.{◌≡◌, refl, sym, ap, ap₂, ◌∙◌}
+use mathlib.Core.Path.{◌≡◌, subst, refl, sym, ap, ap₂, ◌∙◌}
 use mathlib.Core.Logic.{⊎_elim}
 use mathlib.Core.Bool.{Bool, true, false, cond, ◌||◌, true≢false, or-true}
 use mathlib.Core.List.{List, [], ◌∷◌, map}
@@ -85,7 +85,7 @@ module _ (pattern : ℕ) where
         (λ (d : n ≡ suc k → ⊥). let b = t.only n (behind n (suc k) ns d h) in (b.0, omega (arith, b.1), b.2))
         (alike n (suc k));
     each = λ n b. ⊎_elim
-        (λ (p : n ≡ suc k). rw p (here (suc k) ns))
+        (λ (p : n ≡ suc k). subst (λ (z : ℕ). is_one_of z (suc k ∷ ns) ≡ true) (sym p) (here (suc k) ns))
         (λ (d : n ≡ suc k → ⊥). later n (suc k) ns (t.each n (b.0, omega (arith, b.1), b.2)))
         (alike n (suc k));
     once = (⊎_elim (λ (h : is_one_of (suc k) ns ≡ true). absurd (omega (arith, (t.only (suc k) h).1))) (λ h. h) (decided (is_one_of (suc k) ns)), t.once);
@@ -243,7 +243,10 @@ module _ (a f w : ℕ) (s : a ≤ 15) (l : w ≤ 16777215) where
       let r = b k (here k ns) in
       run-block ns (does x k) (rest k ns b) (next k ns x b q) o.1 n
       ∙ ⊎_elim
-      (λ (e : n ≡ k). rw (e, here k ns, o.0) (own_block x k q r.0 r.1))
+      (λ (e : n ≡ k). subst
+      (λ (z : ℕ). cond (is_one_of z ns) (command_of (block_of (does x k) z) a f w).block (block_of (does x k) z)
+      ≡ cond (is_one_of z (k ∷ ns)) (command_of (block_of x z) a f w).block (block_of x z))
+      (sym e) (rw (here k ns, o.0) (own_block x k q r.0 r.1)))
       (λ (d : n ≡ k → ⊥). rw (ne_eqb n k d, other_block x k q r.0 r.1 n d))
       (alike n k)
 

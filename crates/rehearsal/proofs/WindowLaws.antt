@@ -8,8 +8,8 @@ use mathlib.Core.List.{List, ◌++◌}
 use mathlib.Core.Logic.{⊎_elim}
 use native.Mathlib.Omega.{arith}
 use borrow.Author.Tests.{eqb-true, eq-eqb, ltb-true, ltb-false, le-leb}
-use lib.Dec.{eqb, ltb}
-use lib.ListN.{length, get_or, take, drop, length-append, length-drop, get_or-append}
+use lib.Dec.{ltb}
+use lib.ListN.{length, get_or, drop, length-append, length-drop, get_or-append}
 use lib.Seq.{drop_at}
 use Rattle.word24.specs.Word.{bit_of}
 use Rattle.kinds.proofs.TestLaws.{decided}
@@ -17,16 +17,14 @@ use Rattle.dataway.specs.Crate.{is_fit_crate, FitCrate}
 use Rattle.dataway.proofs.CrateLaws.{crate-facts, facts-crate}
 use Rattle.step.specs.Verdict.{places_of, window_then, room_then, within_verdict}
 use Rattle.step.proofs.Numbers.{number-injective}
-use Rattle.step.specs.declared.Refusal.{Refusal}
 use Rattle.step.specs.declared.Refusal.TheVariants.{UnfitCrate}
 use Rattle.step.specs.declared.Step.TheVariants.{Within}
 use Rattle.step.specs.declared.Verdict.{Verdict}
 use Rattle.step.specs.declared.Verdict.TheVariants.{Fine, Refuse}
-use Rattle.windows.specs.Within.{is_inside, within_of}
+use Rattle.windows.specs.Within.{is_inside}
 use Rattle.windows.specs.Found.{Found}
 use Rattle.windows.specs.Flags.{windows_in, low_of, high_of, flag_of, flags_of, read_of}
 use Rattle.windows.specs.Sheets.{FlaggedSheet, unflagged, flagged, sheet_verdict, judged_sheet, sheet_of, GoodSheet}
-use Rattle.windows.specs.declared.sheets.Flagging.{Flagging}
 use Rattle.windows.specs.declared.sheets.Flagging.TheVariants.{Flagged}
 use Rattle.windows.proofs.FoundLaws.{inside_found}
 use Rattle.windows.proofs.FlagLaws.{flag-bit, flag-clear, flags-at, reads_all}

@@ -2,7 +2,7 @@
 -- each station on the way.
 -- Assumes nothing.
 use Prim.Native.Nat.{ℕ, ◌+◌, ◌≤◌, ◌<◌}
-use mathlib.Core.Path.{◌≡◌, refl, sym, ap, ◌∙◌}
+use mathlib.Core.Path.{◌≡◌, refl, sym, ap, subst, ◌∙◌}
 use mathlib.Core.Bool.{Bool, cond}
 use mathlib.Core.Logic.{inl, inr}
 use mathlib.Core.List.{List, [], ◌∷◌, ◌++◌, append-nil, append_assoc}
@@ -91,7 +91,7 @@ module _ (f to limit : ℕ) where
   crossed : (n a : ℕ) (r : Reply) (cs : List Made) → (n + 1 ≤ to → MadeAt (n + 1) 0 cs) → After (n + 1) cs → After n (made n a r ∷ cs)
   crossed n a r cs b h x lo hi =
       elim (ℕ_discrete x (n + 1)) [
-        | yes e ↦ inr (rw e (b (omega arith)))
+        | yes e ↦ inr (subst (λ (z : ℕ). MadeAt z 0 cs) (sym e) (b (omega arith)))
         | no e ↦ inr (h x (omega arith) hi)
       ]
 

@@ -8,7 +8,7 @@ use native.Mathlib.Numerals.{add-one}
 use native.Mathlib.Omega.{arith}
 use borrow.Author.Tests.{leb-true, le-leb, eqb-true, eq-eqb}
 use lib.Dec.{leb, eqb}
-use lib.ListN.{length, get_or, take, drop, length-drop}
+use lib.ListN.{length, take, drop, length-drop}
 use lib.Seq.{drop-cons, take_at}
 use Rattle.kinds.proofs.TestLaws.{both-fst, both-snd}
 use Rattle.step.specs.Verdict.{within, unless, is_fine, station_then, range_then, window_then, places_of, room_then}

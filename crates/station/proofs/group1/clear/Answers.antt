@@ -1,0 +1,20 @@
+-- `clear` meets its contract: a buffer memory has its own rule; of another module the register is zeroed.
+use borrow.Author.Tests.{eq-eqb, ne_eqb, lt-ltb}
+use Rattle.station.proofs.ClassLaws.{buffer-first}
+use Rattle.station.proofs.KindTable.{register-kind}
+use Rattle.station.specs.Group1.{clear_of}
+use Rattle.station.proofs.group1.clear.Goals as goal
+
+pub returns-then-b-eq-BUFFER_MEMORY : goal.returns-then-b-eq-BUFFER_MEMORY
+unfolding clear_of
+returns-then-b-eq-BUFFER_MEMORY c = let e = c in
+    let buffer = c.if-b-eq-BUFFER_MEMORY.true in
+    simp (eq-eqb _ _ buffer) (rw (buffer-first _ _ e.requires.fact_1 buffer e.requires.fact_3) c.clear.ensures)
+
+pub returns : goal.returns
+unfolding clear_of
+returns c = simp (
+  register-kind _ _ c.requires.fact_1 c.if-b-eq-BUFFER_MEMORY.false c.requires.fact_3,
+  ne_eqb _ _ c.if-b-eq-BUFFER_MEMORY.false,
+  lt-ltb _ _ c.requires.fact_3,
+)

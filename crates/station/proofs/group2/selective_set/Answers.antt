@@ -1,0 +1,13 @@
+-- `selective_set` meets its contract: there are sources, and the mask gets the bits of w below s besides its own.
+use borrow.Author.Tests.{lt-ltb}
+use Rattle.station.specs.Group2.{group2, selective_set_group2_of}
+use Rattle.station.proofs.group2.selective_set.Goals as goal
+
+pub returns : goal.returns
+unfolding selective_set_group2_of group2
+returns c = simp (
+  lt-ltb _ _ c.requires.fact_2,
+  c.set_bits.ensures,
+  c.low_bits.ensures,
+  c.sources-s.ensures,
+)
