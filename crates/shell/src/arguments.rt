@@ -58,7 +58,9 @@ fn has_argument(env: &impl Env, i: usize) -> bool {
 }
 
 // How many arguments the program was started with, its own name among them, or 4 where they are more.
-pub fn argument_count(env: &impl Env) -> usize {
+pub fn argument_count(env: &impl Env) -> usize
+    ensures { result ≤ 4 }
+{
     for i in 0..4 {
         if !has_argument(env, i) {
             return i;

@@ -12,14 +12,14 @@ pub returns-then-c-ge2 : goal.returns-then-c-ge2
 returns-then-c-ge2 g c =
     let built = c.take_file-built in
     λ e. handed-as built.new.out c.flush.ensures
-        (handed-crate (start_is c.args.line.now c.args.memory.now c.args.out.now (c.requires.2))
-            (built.ensures.closed (not-false built.result.ok c.if-not-built.false)) (omega arith))
+    (handed-crate (start_is c.args.line.now c.args.memory.now c.args.out.now (c.requires.2))
+    (built.ensures.closed (not-false built.result.ok c.if-not-built.false)) (omega arith))
 
 pub returns : goal.returns
 returns g c =
     let built = c.take_file-built in
     let ran = c.take_file-ran in
     λ e. handed-as ran.new.out c.flush-2.ensures
-        (handed-both (start_is c.args.line.now c.args.memory.now c.args.out.now (c.requires.2))
-            (built.ensures.closed (not-false built.result.ok c.if-not-built.false)) (omega arith) refl
-            (ran.ensures.closed (not-false ran.result.ok c.if-not-ran.false)))
+    (handed-both (start_is c.args.line.now c.args.memory.now c.args.out.now (c.requires.2))
+    (built.ensures.closed (not-false built.result.ok c.if-not-built.false)) (omega arith) refl
+    (ran.ensures.closed (not-false ran.result.ok c.if-not-ran.false)))

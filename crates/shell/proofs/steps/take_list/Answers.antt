@@ -8,4 +8,4 @@ returns g c =
     let read = c.take_parts-read in
     let end = c.finish-r in
     λ e. stored-all (read.ensures.listed_2 (not-false read.result.whole c.if-not-read.false)) end.result read.new.line end.new.words end.ensures.held
-        end.ensures.words_after
+    end.ensures.words_after

@@ -11,4 +11,4 @@ returns-clause-listed_2 g c =
     let read = c.read_some-got in
     let n = read.result.count in
     λ e. listed_more (take n read.new.text) c.requires.listed (omega (arith, length-take-le n read.new.text read.ensures)) (sym c.has_past-past.ensures ∙ c.if-past.false)
-        c.take_text.ensures.words_after
+    c.take_text.ensures.words_after
