@@ -47,15 +47,15 @@ fn put_table(out: &mut [u8]) -> usize
     next
 }
 
-fn main() {
-    if os::arg_count() > 1 {
-        io::write_all(
-            libc::STDERR_FILENO,
+fn main(rt: HostRuntime) {
+    let err = rt.stderr();
+    if shell::argument_count(&rt) > 1 {
+        let _ = err.write_all(
             b"usage: classes    prints the table of acceptance classes; it takes no argument\n",
         );
         return;
     }
-    let mut out = io::buffer();
+    let mut out = [0u8; 4096];
     let n = put_table(&mut out);
-    shell::write_out(&out, n, b"the table");
+    shell::write_out(&rt, &err, &out, n, b"the table");
 }

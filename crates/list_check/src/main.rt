@@ -7,8 +7,8 @@ ghost use Rattle.std.specs.Prelude.{◌≡◌, ◌≤◌, length};
 ghost use Rattle.reader.specs.Reading.{Held};
 
 use controller::Answer;
-use libc::{STDIN_FILENO, STDOUT_FILENO};
 use reader::Reader;
+use std::io::Read;
 use step::{Reading, Refusal, Verdict};
 
 // The stored input fits.
@@ -114,69 +114,75 @@ fn number(verdict: Verdict) -> u32 {
 }
 
 // ---- what is printed
-fn show(key: &[u8], n: u32) {
-    io::write_all(STDOUT_FILENO, key);
-    io::print_decimal(STDOUT_FILENO, n as u64);
+fn show(rt: &impl Print, key: &[u8], n: u32) {
+    let _ = rt.write_all(key);
+    let _ = rt.print(n as u64);
 }
 
-fn end_line() {
-    io::write_all(STDOUT_FILENO, b"\n");
+fn end_line(rt: &impl Print) {
+    let _ = rt.write_all(b"\n");
 }
 
-fn show_changes(key: &[u8], before: &[u32], words: &[u32]) {
-    io::write_all(STDOUT_FILENO, key);
-    io::print_decimal(STDOUT_FILENO, changes(before, words) as u64);
+fn show_changes(rt: &impl Print, key: &[u8], before: &[u32], words: &[u32]) {
+    let _ = rt.write_all(key);
+    let _ = rt.print(changes(before, words) as u64);
 }
 
-fn show_word(words: &[u32], i: usize) {
-    show(b" ", word(words, i));
+fn show_word(rt: &impl Print, words: &[u32], i: usize) {
+    show(rt, b" ", word(words, i));
 }
 
-fn show_words(sign: &[u8], words: &[u32], from: usize, to: usize) {
-    io::write_all(STDOUT_FILENO, sign);
+fn show_words(rt: &impl Print, sign: &[u8], words: &[u32], from: usize, to: usize) {
+    let _ = rt.write_all(sign);
     for i in from..to {
-        show_word(words, i);
+        show_word(rt, words, i);
     }
 }
 
 // The last of so many words from one on, if there is one.
-fn show_last(words: &[u32], from: usize, count: u32)
+fn show_last(rt: &impl Print, words: &[u32], from: usize, count: u32)
     requires { from ≤ 10240 }
 {
     if 0 < count {
         let end = from + count as usize;
-        show_words(b" ..", words, end - 1, end);
+        show_words(rt, b" ..", words, end - 1, end);
     }
 }
 
 // The first four words of a step's buffer, where it is of a kind that stores, and of a listing the last that it listed.
-fn show_stored(kind: u32, count: u32, words: &[u32], from: usize)
+fn show_stored(rt: &impl Print, kind: u32, count: u32, words: &[u32], from: usize)
     requires { from ≤ 10240 }
 {
     match kind {
         5 => {
-            show_words(b" :", words, from, from + 4);
+            show_words(rt, b" :", words, from, from + 4);
         }
         7 => {
-            show_words(b" :", words, from, from + 4);
-            show_last(words, from, count);
+            show_words(rt, b" :", words, from, from + 4);
+            show_last(rt, words, from, count);
         }
         _ => {}
     }
 }
 
 // The answer to step k, and what it stored.
-fn show_answer(answers: &[u32], buffers: &[u32], k: usize) {
+fn show_answer(rt: &impl Print, answers: &[u32], buffers: &[u32], k: usize) {
     if k < LIST_STEPS {
         let at = 4 * k;
-        show_words(b" |", answers, at, at + 4);
-        show_stored(word(answers, at), word(answers, at + 1), buffers, 512 * k);
+        show_words(rt, b" |", answers, at, at + 4);
+        show_stored(
+            rt,
+            word(answers, at),
+            word(answers, at + 1),
+            buffers,
+            512 * k,
+        );
     }
 }
 
-fn show_answers(answers: &[u32], buffers: &[u32], count: usize) {
+fn show_answers(rt: &impl Print, answers: &[u32], buffers: &[u32], count: usize) {
     for k in 0..count {
-        show_answer(answers, buffers, k);
+        show_answer(rt, answers, buffers, k);
     }
 }
 
@@ -185,25 +191,25 @@ fn answered(n: u32, count: usize) -> usize {
     if n == 0 { count } else { 0 }
 }
 
-fn show_verdict(case: u32, n: u32) {
-    show(b"case=", case);
-    show(b" verdict=", n);
+fn show_verdict(rt: &impl Print, case: u32, n: u32) {
+    show(rt, b"case=", case);
+    show(rt, b" verdict=", n);
 }
 
-fn show_run(case: u32, n: u32, count: usize, answers: &[u32], buffers: &[u32]) {
-    show_verdict(case, n);
-    show_answers(answers, buffers, answered(n, count));
+fn show_run(rt: &impl Print, case: u32, n: u32, count: usize, answers: &[u32], buffers: &[u32]) {
+    show_verdict(rt, case, n);
+    show_answers(rt, answers, buffers, answered(n, count));
 }
 
-fn show_marks(marks: &[u32], answers: &[u32], buffers: &[u32]) {
-    show_changes(b" answers=", marks, answers);
-    show_changes(b" buffers=", marks, buffers);
+fn show_marks(rt: &impl Print, marks: &[u32], answers: &[u32], buffers: &[u32]) {
+    show_changes(rt, b" answers=", marks, answers);
+    show_changes(rt, b" buffers=", marks, buffers);
 }
 
 // The verdict on one of two lists, and its four answers.
-fn show_half(key: &[u8], verdict: Verdict, answers: &[u32], buffers: &[u32]) {
-    show(key, number(verdict));
-    show_answers(answers, buffers, 4);
+fn show_half(rt: &impl Print, key: &[u8], verdict: Verdict, answers: &[u32], buffers: &[u32]) {
+    show(rt, key, number(verdict));
+    show_answers(rt, answers, buffers, 4);
 }
 
 // ---- the calls
@@ -234,6 +240,7 @@ fn run_lent(
 
 // The verdict on it, its answers, and how many words it changed.
 fn run(
+    rt: &impl Print,
     case: u32,
     count: usize,
     memory: &mut [u32],
@@ -259,10 +266,10 @@ fn run(
         &mut buffers,
         b,
     );
-    show_run(case, number(verdict), count, &answers, &buffers);
-    show_changes(b" memory=", &before, memory);
-    show_marks(&marks, &answers, &buffers);
-    end_line();
+    show_run(rt, case, number(verdict), count, &answers, &buffers);
+    show_changes(rt, b" memory=", &before, memory);
+    show_marks(rt, &marks, &answers, &buffers);
+    end_line(rt);
 }
 
 // The step of a line by `run_step`, or the line by `run_line`.
@@ -287,24 +294,32 @@ fn call_lent(
 }
 
 // The four words of an answer and what follows them.
-fn show_one(case: u32, answer: Answer, buffer: &[u32]) {
+fn show_one(rt: &impl Print, case: u32, answer: Answer, buffer: &[u32]) {
     let mut words = [0u32; 4];
     lists::write_answer(&mut words, answer);
-    show(b"case=", case);
-    show_answer(&words, buffer, 0);
+    show(rt, b"case=", case);
+    show_answer(rt, &words, buffer, 0);
 }
 
 // The answer of a step or a line with the first `lent` words of a buffer full of y, and how many words it changed.
-fn one(case: u32, as_step: bool, memory: &[u32], line: &[u8], lent: usize, y: u32) {
+fn one(
+    rt: &impl Print,
+    case: u32,
+    as_step: bool,
+    memory: &[u32],
+    line: &[u8],
+    lent: usize,
+    y: u32,
+) {
     let mut m = [0u32; 768];
     copy(memory, &mut m);
     let full = [y; ONE_BUFFER];
     let mut buffer = full;
     let answer = call_lent(as_step, &mut m, line, &mut buffer, lent);
-    show_one(case, answer, &buffer);
-    show_changes(b" memory=", memory, &m);
-    show_changes(b" buffer=", &full, &buffer);
-    end_line();
+    show_one(rt, case, answer, &buffer);
+    show_changes(rt, b" memory=", memory, &m);
+    show_changes(rt, b" buffer=", &full, &buffer);
+    end_line(rt);
 }
 
 // The transfer of a step's words by the trigger processor's call.
@@ -354,7 +369,7 @@ fn fill(buffer: &mut [u32], numbers: &[u32]) {
 }
 
 // The first step of the list with words lent: its answer, the first four registers of station 6, and how many words it changed.
-fn lend(case: u32, as_step: bool, memory: &[u32], steps: &[u32], numbers: &[u32]) {
+fn lend(rt: &impl Print, case: u32, as_step: bool, memory: &[u32], steps: &[u32], numbers: &[u32]) {
     let mut m = [0u32; 768];
     copy(memory, &mut m);
     let mut full = [MARK; LONG_BUFFER];
@@ -362,15 +377,15 @@ fn lend(case: u32, as_step: bool, memory: &[u32], steps: &[u32], numbers: &[u32]
     let mut buffer = full;
     let lent = place(numbers, 2);
     let answer = first_lent(as_step, &mut m, steps, &mut buffer, lent);
-    show_one(case, answer, &buffer);
-    show_words(b" ;", &m, 208, 212);
-    show_changes(b" memory=", memory, &m);
-    show_changes(b" buffer=", &full, &buffer);
-    end_line();
+    show_one(rt, case, answer, &buffer);
+    show_words(rt, b" ;", &m, 208, 212);
+    show_changes(rt, b" memory=", memory, &m);
+    show_changes(rt, b" buffer=", &full, &buffer);
+    end_line(rt);
 }
 
 // Two lists of four steps on equal crates, but for I, which is x in the second.
-fn pair(case: u32, memory: &[u32], x: u32, steps: &[u32], second: &[u32]) {
+fn pair(rt: &impl Print, case: u32, memory: &[u32], x: u32, steps: &[u32], second: &[u32]) {
     let mut m1 = [0u32; 768];
     copy(memory, &mut m1);
     let mut m2 = m1;
@@ -384,39 +399,39 @@ fn pair(case: u32, memory: &[u32], x: u32, steps: &[u32], second: &[u32]) {
     );
     let v1 = pair.first;
     let v2 = pair.second;
-    show(b"case=", case);
-    show_half(b" first=", v1, &a1, &b1);
-    show_half(b" second=", v2, &a2, &b2);
-    show_changes(b" differ=", &m1, &m2);
-    end_line();
+    show(rt, b"case=", case);
+    show_half(rt, b" first=", v1, &a1, &b1);
+    show_half(rt, b" second=", v2, &a2, &b2);
+    show_changes(rt, b" differ=", &m1, &m2);
+    end_line(rt);
 }
 
-fn two_lists(case: u32, memory: &[u32], x: u32, steps: &[u32]) {
+fn two_lists(rt: &impl Print, case: u32, memory: &[u32], x: u32, steps: &[u32]) {
     if LIST_WORDS <= steps.len() {
         let second = &steps[LIST_WORDS..];
-        pair(case, memory, x, steps, second);
+        pair(rt, case, memory, x, steps, second);
     }
 }
 
 // Words 0 to 7 of station n and of the two stations to its right; nothing where n is 0.
-fn show_stations(memory: &[u32], n: u32) {
+fn show_stations(rt: &impl Print, memory: &[u32], n: u32) {
     if 0 < n {
         let at = 32 * n as usize;
-        show_words(b" ;", memory, at, at + 8);
-        show_words(b" ;", memory, at + 32, at + 40);
-        show_words(b" ;", memory, at + 64, at + 72);
+        show_words(rt, b" ;", memory, at, at + 8);
+        show_words(rt, b" ;", memory, at + 32, at + 40);
+        show_words(rt, b" ;", memory, at + 64, at + 72);
     }
 }
 
 // The verdict on a crate line after one for station `previous`, what it leaves in station n and to its right, and how many words it changed.
-fn module(case: u32, memory: &[u32], previous: u32, n: u32, line: &[u8]) {
+fn module(rt: &impl Print, case: u32, memory: &[u32], previous: u32, n: u32, line: &[u8]) {
     let mut m = [0u32; 768];
     copy(memory, &mut m);
     let verdict = rehearsal::crate_line(&mut m, previous, line);
-    show_verdict(case, number(verdict));
-    show_stations(&m, n);
-    show_changes(b" memory=", memory, &m);
-    end_line();
+    show_verdict(rt, case, number(verdict));
+    show_stations(rt, &m, n);
+    show_changes(rt, b" memory=", memory, &m);
+    end_line(rt);
 }
 
 // ---- a run file of more lines than are read
@@ -455,11 +470,11 @@ fn take_parts(text: &[u8], s: Reader, line: &mut [u8], memory: &mut [u32], out: 
 }
 
 // What is printed from line 99,997 of a run file on. The first scan is read where it stands, since 81 bytes follow, the others by way of the line buffer.
-fn long_run(case: u32) {
+fn long_run(rt: &impl Print, case: u32) {
     let empty = [b'\n'; PART_LINES];
     let mut line = [0u8; 81];
     let mut memory = [0u32; 768];
-    let mut out = io::large_buffer();
+    let mut out = [0u8; 65536];
     let start = Reader {
         fill: 0,
         number: 0,
@@ -476,12 +491,12 @@ fn long_run(case: u32) {
         &mut out,
     );
     let at = past.at;
-    show(b"case=", case);
-    end_line();
-    io::write_all(STDOUT_FILENO, &out[..at]);
+    show(rt, b"case=", case);
+    end_line(rt);
+    let _ = rt.write_all(&out[..at]);
     let last = reader::finish(anew(past), &line, &mut memory, &mut out);
     let end = last.at;
-    io::write_all(STDOUT_FILENO, &out[..end]);
+    let _ = rt.write_all(&out[..end]);
 }
 
 // ---- the lines of standard input
@@ -491,18 +506,26 @@ fn count_of(numbers: &[u32]) -> usize {
 }
 
 // Status, mask, head and fill of the buffer memory, and its sixteen words.
-fn view(case: u32, memory: &[u32]) {
-    show(b"case=", case);
-    show_words(b" ;", memory, 130, 134);
-    show_words(b" ;", memory, 144, 160);
-    end_line();
+fn view(rt: &impl Print, case: u32, memory: &[u32]) {
+    show(rt, b"case=", case);
+    show_words(rt, b" ;", memory, 130, 134);
+    show_words(rt, b" ;", memory, 144, 160);
+    end_line(rt);
 }
 
-fn do_call(op: u8, numbers: &[u32], text: &[u8], memory: &mut [u32], steps: &[u32]) {
+fn do_call(
+    rt: &impl Print,
+    op: u8,
+    numbers: &[u32],
+    text: &[u8],
+    memory: &mut [u32],
+    steps: &[u32],
+) {
     let case = word(numbers, 1);
     match op {
         b'L' => {
             run(
+                rt,
                 case,
                 count_of(numbers),
                 memory,
@@ -514,10 +537,11 @@ fn do_call(op: u8, numbers: &[u32], text: &[u8], memory: &mut [u32], steps: &[u3
             );
         }
         b'V' => {
-            view(case, memory);
+            view(rt, case, memory);
         }
         b'O' | b'R' => {
             one(
+                rt,
                 case,
                 op == b'O',
                 memory,
@@ -527,16 +551,16 @@ fn do_call(op: u8, numbers: &[u32], text: &[u8], memory: &mut [u32], steps: &[u3
             );
         }
         b'B' | b'T' => {
-            lend(case, op == b'B', memory, steps, numbers);
+            lend(rt, case, op == b'B', memory, steps, numbers);
         }
         b'P' => {
-            two_lists(case, memory, word(numbers, 2), steps);
+            two_lists(rt, case, memory, word(numbers, 2), steps);
         }
         b'C' => {
-            module(case, memory, word(numbers, 2), word(numbers, 3), text);
+            module(rt, case, memory, word(numbers, 2), word(numbers, 3), text);
         }
         b'N' => {
-            long_run(case);
+            long_run(rt, case);
         }
         _ => {}
     }
@@ -603,12 +627,12 @@ fn first(line: &[u8]) -> u8 {
     if 0 < line.len() { line[0] } else { 0 }
 }
 
-fn do_line(line: &[u8], text: &[u8], memory: &mut [u32], steps: &mut [u32]) {
+fn do_line(rt: &impl Print, line: &[u8], text: &[u8], memory: &mut [u32], steps: &mut [u32]) {
     let op = first(line);
     let mut numbers = [0u32; 8];
     read_numbers(line, &mut numbers);
     prepare(op, &numbers, memory, steps);
-    do_call(op, &numbers, text, memory, steps);
+    do_call(rt, op, &numbers, text, memory, steps);
 }
 
 // Where the line that begins at start ends: at the next LF, or at the end.
@@ -627,21 +651,39 @@ fn line_end(input: &[u8], start: usize) -> usize
 }
 
 // Each line with the one after it, which is the text of a step, a line or a module where a call takes one.
-fn do_lines(input: &[u8], memory: &mut [u32], steps: &mut [u32]) {
+fn do_lines(rt: &impl Print, input: &[u8], memory: &mut [u32], steps: &mut [u32]) {
     let mut start = 0;
     while start < input.len() {
         let end = line_end(input, start);
         let next = least(end + 1, input.len());
         let last = line_end(input, next);
-        do_line(&input[start..end], &input[next..last], memory, steps);
+        do_line(rt, &input[start..end], &input[next..last], memory, steps);
         start = end + 1;
     }
 }
 
-fn main() {
+// Reads until the buffer is full, the input ends or a read fails, and answers how many bytes it put at the start of the buffer.
+fn read_full(input: &mut impl Read, buf: &mut [u8]) -> usize
+    ensures { result ≤ length buf.new }
+{
+    let mut done = 0;
+    while done < buf.len() {
+        let n = match input.read(&mut buf[done..]) {
+            Ok(n) => n,
+            Err(_) => 0,
+        };
+        if n == 0 {
+            return done;
+        }
+        done += n;
+    }
+    done
+}
+
+fn main(rt: HostRuntime) {
     let mut input = [0u8; ROOM];
-    let count = io::read_full(STDIN_FILENO, &mut input);
+    let count = read_full(&mut rt.reader(), &mut input);
     let mut memory = [0u32; BOTH_WORDS];
     let mut steps = [0u32; BOTH_LISTS];
-    do_lines(&input[..count], &mut memory, &mut steps);
+    do_lines(&rt, &input[..count], &mut memory, &mut steps);
 }

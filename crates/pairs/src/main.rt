@@ -4,14 +4,16 @@
 
 ghost use Rattle.std.specs.Prelude.{◌≡◌, ◌≤◌, length};
 
-use libc::STDOUT_FILENO;
 use listfile::LIST_WORDS;
+use std::rt::Files;
 
 // The number of the last pair.
 const CASES: u8 = 51;
 
 // Compares pair k, in lent buffers.
-fn compare_pair(
+fn compare_pair<R: Files + Print>(
+    rt: &R,
+    err: &impl Print,
     k: u8,
     text: &mut [u8],
     line: &mut [u8],
@@ -28,12 +30,24 @@ fn compare_pair(
         tens, ones, b'.', b'r', b'e', b'g', b'r', b'o', b'u', b'p', b'e', b'd',
     ];
     let head = [b'c', b'a', b's', b'e', b'=', tens, ones, b'\n'];
-    io::write_all(STDOUT_FILENO, &head);
-    regrouping::compare_files(&first_path, &second_path, text, line, first, second, out);
+    let _ = rt.write_all(&head);
+    regrouping::compare_files(
+        rt,
+        err,
+        &first_path,
+        &second_path,
+        text,
+        line,
+        first,
+        second,
+        out,
+    );
 }
 
 // Compares every pair, in lent buffers.
-fn compare_all(
+fn compare_all<R: Files + Print>(
+    rt: &R,
+    err: &impl Print,
     text: &mut [u8],
     line: &mut [u8],
     first: &mut [u32],
@@ -42,18 +56,25 @@ fn compare_all(
 )
     requires { (length line.old ≡ 81) × (length first.old ≡ 599994) × (length second.old ≡ 599994) × (4096 ≤ length out.old) }
 {
-    let mut k: u8 = 1;
-    while k <= CASES {
-        compare_pair(k, text, line, first, second, out);
-        k += 1;
+    for k in 1..=CASES {
+        compare_pair(rt, err, k, text, line, first, second, out);
     }
 }
 
-fn main() {
-    let mut text = io::large_buffer();
+fn main(rt: HostRuntime) {
+    let err = rt.stderr();
+    let mut text = [0u8; 65536];
     let mut line = [0u8; 81];
     let mut first = [0u32; LIST_WORDS];
     let mut second = [0u32; LIST_WORDS];
-    let mut out = io::buffer();
-    compare_all(&mut text, &mut line, &mut first, &mut second, &mut out);
+    let mut out = [0u8; 4096];
+    compare_all(
+        &rt,
+        &err,
+        &mut text,
+        &mut line,
+        &mut first,
+        &mut second,
+        &mut out,
+    );
 }

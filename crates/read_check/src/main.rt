@@ -5,71 +5,71 @@
 ghost use Rattle.std.specs.Prelude.{◌≤◌, length};
 
 use kinds::Module;
-use libc::{STDIN_FILENO, STDOUT_FILENO};
+use std::io::Read;
 use step::{ModuleLine, Reading, Refusal, Step};
 
 // The stored input fits.
 const ROOM: usize = 262144;
 
-fn show(bytes: &[u8]) {
-    io::write_all(STDOUT_FILENO, bytes);
+fn show(rt: &impl Print, bytes: &[u8]) {
+    let _ = rt.write_all(bytes);
 }
 
 // A key and its number, as `text` puts them into a buffer.
-fn show_field(key: &[u8], n: u32)
+fn show_field(rt: &impl Print, key: &[u8], n: u32)
     requires { length key.now ≤ 20 }
 {
     let mut out = [0u8; 30];
     let next = text::put_field(&mut out, 0, key, n);
-    show(&out[..next]);
+    show(rt, &out[..next]);
 }
 
-fn show_refusal(refusal: Refusal) {
+fn show_refusal(rt: &impl Print, refusal: Refusal) {
     match refusal {
         Refusal::Garbled => {
-            show(b"1");
+            show(rt, b"1");
         }
         _ => {
-            show(b"another refusal");
+            show(rt, b"another refusal");
         }
     }
 }
 
-fn show_head(key: &[u8], n: u32, a: u32, f: u32)
+fn show_head(rt: &impl Print, key: &[u8], n: u32, a: u32, f: u32)
     requires { length key.now ≤ 20 }
 {
-    show_field(key, n);
-    show_field(b" a=", a);
-    show_field(b" f=", f);
+    show_field(rt, key, n);
+    show_field(rt, b" a=", a);
+    show_field(rt, b" f=", f);
 }
 
-fn show_step(step: Step) {
+fn show_step(rt: &impl Print, step: Step) {
     match step {
         Step::Command { n, a, f, w } => {
-            show_head(b"Command n=", n, a, f);
-            show_field(b" w=", w);
+            show_head(rt, b"Command n=", n, a, f);
+            show_field(rt, b" w=", w);
         }
         Step::Front { n, a, v } => {
-            show_field(b"Front n=", n);
-            show_field(b" a=", a);
-            show_field(b" v=", v);
+            show_field(rt, b"Front n=", n);
+            show_field(rt, b" a=", a);
+            show_field(rt, b" v=", v);
         }
         Step::Z => {
-            show(b"Z");
+            show(rt, b"Z");
         }
         Step::C => {
-            show(b"C");
+            show(rt, b"C");
         }
         Step::Inhibit { v } => {
-            show_field(b"Inhibit v=", v);
+            show_field(rt, b"Inhibit v=", v);
         }
         Step::LookAtMe => {
-            show(b"LookAtMe");
+            show(rt, b"LookAtMe");
         }
         Step::Scan { n, a, f, to, limit } => {
-            show_head(b"Scan n=", n, a, f);
-            show_field(b" to=", to);
-            show_field(b" limit=", limit);
+            show_head(rt, b"Scan n=", n, a, f);
+            show_field(rt, b" to=", to);
+            show_field(rt, b" limit=", limit);
         }
         Step::Repeat {
             n,
@@ -78,73 +78,73 @@ fn show_step(step: Step) {
             limit,
             tries,
         } => {
-            show_head(b"Repeat n=", n, a, f);
-            show_field(b" limit=", limit);
-            show_field(b" tries=", tries);
+            show_head(rt, b"Repeat n=", n, a, f);
+            show_field(rt, b" limit=", limit);
+            show_field(rt, b" tries=", tries);
         }
         Step::Stop { n, a, f, limit } => {
-            show_head(b"Stop n=", n, a, f);
-            show_field(b" limit=", limit);
+            show_head(rt, b"Stop n=", n, a, f);
+            show_field(rt, b" limit=", limit);
         }
         Step::Put { n, a, to, limit, w } => {
-            show_field(b"Put n=", n);
-            show_field(b" a=", a);
-            show_field(b" to=", to);
-            show_field(b" limit=", limit);
-            show_field(b" w=", w);
+            show_field(rt, b"Put n=", n);
+            show_field(rt, b" a=", a);
+            show_field(rt, b" to=", to);
+            show_field(rt, b" limit=", limit);
+            show_field(rt, b" w=", w);
         }
         // no line says this
         Step::PutLent { n, a, to, limit } => {
-            show(b"PutLent");
+            show(rt, b"PutLent");
         }
         Step::Processor(short) => {
-            show(b"Processor");
+            show(rt, b"Processor");
         }
         Step::Within { n, to, lo, hi } => {
-            show_field(b"Within n=", n);
-            show_field(b" to=", to);
-            show_field(b" lo=", lo);
-            show_field(b" hi=", hi);
+            show_field(rt, b"Within n=", n);
+            show_field(rt, b" to=", to);
+            show_field(rt, b" lo=", lo);
+            show_field(rt, b" hi=", hi);
         }
     }
 }
 
-fn show_reading(reading: Reading) {
+fn show_reading(rt: &impl Print, reading: Reading) {
     match reading {
         Reading::Good(step) => {
-            show_step(step);
+            show_step(rt, step);
         }
         Reading::Bad(refusal) => {
-            show_refusal(refusal);
+            show_refusal(rt, refusal);
         }
     }
 }
 
-fn show_module(module: Module) {
-    show_field(b"Module n=", module.n);
-    show_field(b" kind=", module.kind);
-    show_field(b" r=", module.r);
-    show_field(b" wide=", module.wide);
+fn show_module(rt: &impl Print, module: Module) {
+    show_field(rt, b"Module n=", module.n);
+    show_field(rt, b" kind=", module.kind);
+    show_field(rt, b" r=", module.r);
+    show_field(rt, b" wide=", module.wide);
 }
 
-fn show_module_line(line: ModuleLine) {
+fn show_module_line(rt: &impl Print, line: ModuleLine) {
     match line {
         ModuleLine::Holds(module) => {
-            show_module(module);
+            show_module(rt, module);
         }
         ModuleLine::Bad(refusal) => {
-            show_refusal(refusal);
+            show_refusal(rt, refusal);
         }
     }
 }
 
-fn show_line(k: usize, line: &[u8]) {
-    io::print_decimal(STDOUT_FILENO, k as u64);
-    show(b": ");
-    show_reading(runfile::read_line(line));
-    show(b", ");
-    show_module_line(runfile::read_module(line));
-    show(b"\n");
+fn show_line(rt: &impl Print, k: usize, line: &[u8]) {
+    let _ = rt.print(k as u64);
+    show(rt, b": ");
+    show_reading(rt, runfile::read_line(line));
+    show(rt, b", ");
+    show_module_line(rt, runfile::read_module(line));
+    show(rt, b"\n");
 }
 
 // Where the line that begins at start ends: at the next LF, or at the end.
@@ -163,12 +163,12 @@ fn line_end(input: &[u8], start: usize) -> usize
 }
 
 // LF ends a line, and the last may lack it.
-fn show_lines(input: &[u8]) {
+fn show_lines(rt: &impl Print, input: &[u8]) {
     let mut start = 0;
     let mut k = 1;
     while start < input.len() {
         let end = line_end(input, start);
-        show_line(k, &input[start..end]);
+        show_line(rt, k, &input[start..end]);
         if end == input.len() {
             return;
         }
@@ -177,8 +177,26 @@ fn show_lines(input: &[u8]) {
     }
 }
 
-fn main() {
+// Reads until the buffer is full, the input ends or a read fails, and answers how many bytes it put at the start of the buffer.
+fn read_full(input: &mut impl Read, buf: &mut [u8]) -> usize
+    ensures { result ≤ length buf.new }
+{
+    let mut done = 0;
+    while done < buf.len() {
+        let n = match input.read(&mut buf[done..]) {
+            Ok(n) => n,
+            Err(_) => 0,
+        };
+        if n == 0 {
+            return done;
+        }
+        done += n;
+    }
+    done
+}
+
+fn main(rt: HostRuntime) {
     let mut input = [0u8; ROOM];
-    let count = io::read_full(STDIN_FILENO, &mut input);
-    show_lines(&input[..count]);
+    let count = read_full(&mut rt.reader(), &mut input);
+    show_lines(&rt, &input[..count]);
 }

@@ -4,15 +4,18 @@
 
 use listfile::LIST_WORDS;
 
-fn main() {
-    let mut text = io::large_buffer();
+fn main(rt: HostRuntime) {
+    let err = rt.stderr();
+    let mut text = [0u8; 65536];
     let mut line = [0u8; 81];
     let mut first = [0u32; LIST_WORDS];
     let mut second = [0u32; LIST_WORDS];
-    let mut out = io::buffer();
-    let mut first_path = io::buffer();
-    let mut second_path = io::buffer();
+    let mut out = [0u8; 4096];
+    let mut first_path = [0u8; 4096];
+    let mut second_path = [0u8; 4096];
     let files = shell::files_named(
+        &rt,
+        &err,
         b"run.txt",
         b"regrouped.txt",
         b"usage: regrouped                 compares regrouped.txt with run.txt in the current folder\n       regrouped FIRST SECOND    compares the second file with the first; a file -x is named ./-x\n",
@@ -25,6 +28,8 @@ fn main() {
     let m = files.first;
     let n = files.second;
     regrouping::compare_files(
+        &rt,
+        &err,
         &first_path[..m],
         &second_path[..n],
         &mut text,

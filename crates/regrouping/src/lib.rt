@@ -7,9 +7,9 @@ ghost use Rattle.text.specs.Paste.{Put};
 ghost use Rattle.verdict.specs.Counted.{count, refused_in};
 ghost use Rattle.regrouping.specs.Files.{heard, PutAnswer, Answered, refused_text};
 
-use libc::STDERR_FILENO;
 use lists::STEP_WORDS;
 use shell::Told;
+use std::rt::Files;
 use text::{put_bytes, put_field};
 
 // Puts what is said of a file's refused lines.
@@ -30,14 +30,14 @@ fn put_refused(out: &mut [u8], many: u32, all: u32) -> usize
 }
 
 // Says how many lines of a file are refused, if any are.
-fn say_refused(path: &[u8], many: u32, all: u32) {
+fn say_refused(err: &impl Print, path: &[u8], many: u32, all: u32) {
     if many == 0 {
         return;
     }
     let mut said = [0u8; 128];
     let end = put_refused(&mut said, many, all);
-    io::write_all(STDERR_FILENO, path);
-    io::write_all(STDERR_FILENO, &said[..end]);
+    let _ = err.write_all(path);
+    let _ = err.write_all(&said[..end]);
 }
 
 // How many lines of a file are refused, of how many; heard unless it has lines and all of them are refused.
@@ -49,7 +49,7 @@ struct Lines {
 }
 
 // Counts the refused lines of a file. Where it is not heard, says so.
-fn hear(path: &[u8], words: &[u32]) -> Lines
+fn hear(err: &impl Print, path: &[u8], words: &[u32]) -> Lines
     requires { count words.now ≤ 99999 }
     ensures { (result.refused ≡ refused_in words.now) × (result.all ≡ count words.now) × (result.heard ≡ heard words.now) }
 {
@@ -69,7 +69,7 @@ fn hear(path: &[u8], words: &[u32]) -> Lines
             heard: true,
         };
     }
-    say_refused(path, refused, all);
+    say_refused(err, path, refused, all);
     Lines {
         refused: refused,
         all: all,
@@ -79,6 +79,8 @@ fn hear(path: &[u8], words: &[u32]) -> Lines
 
 // Prints the report on two lists, if both are heard, and says how many lines are refused.
 fn tell(
+    rt: &impl Print,
+    err: &impl Print,
     first_path: &[u8],
     first: &[u32],
     second_path: &[u8],
@@ -88,23 +90,25 @@ fn tell(
     requires { (count first.now ≤ 99999) × (count second.now ≤ 99999) × (4096 ≤ length out.old) }
     ensures { PutAnswer first.now second.now out.old out.new result.at }
 {
-    let old = hear(first_path, first);
-    let new = hear(second_path, second);
+    let old = hear(err, first_path, first);
+    let new = hear(err, second_path, second);
     if !old.heard {
         return Told { ok: true, at: 0 };
     }
     if !new.heard {
         return Told { ok: true, at: 0 };
     }
-    say_refused(first_path, old.refused, old.all);
-    say_refused(second_path, new.refused, new.all);
+    say_refused(err, first_path, old.refused, old.all);
+    say_refused(err, second_path, new.refused, new.all);
     let at = report::put_report(first, second, out);
-    shell::write_out(out, at, b"the report")
+    shell::write_out(rt, err, out, at, b"the report")
 }
 
 // Compares the run file at one path with that at another, and prints the report, in lent buffers: text for what is read, line for a line's first bytes, first and
 // second for the steps of the two files, out for the report.
-pub fn compare_files(
+pub fn compare_files<R: Files + Print>(
+    rt: &R,
+    err: &impl Print,
     first_path: &[u8],
     second_path: &[u8],
     text: &mut [u8],
@@ -116,8 +120,8 @@ pub fn compare_files(
     requires { (length line.old ≡ 81) × (length first.old ≡ 599994) × (length second.old ≡ 599994) × (4096 ≤ length out.old) }
     ensures { Answered (take result.at out.new) }
 {
-    let old = shell::take_list(first_path, text, line, first);
-    let new = shell::take_list(second_path, text, line, second);
+    let old = shell::take_list(rt, err, first_path, text, line, first);
+    let new = shell::take_list(rt, err, second_path, text, line, second);
     if !old.whole {
         return Told { ok: true, at: 0 };
     }
@@ -126,5 +130,13 @@ pub fn compare_files(
     }
     let p = STEP_WORDS * old.count;
     let q = STEP_WORDS * new.count;
-    tell(first_path, &first[..p], second_path, &second[..q], out)
+    tell(
+        rt,
+        err,
+        first_path,
+        &first[..p],
+        second_path,
+        &second[..q],
+        out,
+    )
 }

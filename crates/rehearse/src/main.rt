@@ -1,14 +1,17 @@
 // Rehearses the run of run.txt on the crate of crate.txt, both in the current folder, or of two files that are named, and prints the sheet.
 #![tactic(auto)]
 
-fn main() {
-    let mut text = io::large_buffer();
+fn main(rt: HostRuntime) {
+    let err = rt.stderr();
+    let mut text = [0u8; 65536];
     let mut line = [0u8; 81];
     let mut memory = [0u32; 768];
-    let mut out = io::large_buffer();
-    let mut crate_path = io::buffer();
-    let mut run_path = io::buffer();
+    let mut out = [0u8; 65536];
+    let mut crate_path = [0u8; 4096];
+    let mut run_path = [0u8; 4096];
     let files = shell::files_named(
+        &rt,
+        &err,
         b"crate.txt",
         b"run.txt",
         b"usage: rehearse              reads crate.txt and run.txt in the current folder\n       rehearse CRATE RUN    reads the two files named; a file -x is named ./-x\n",
@@ -21,6 +24,8 @@ fn main() {
     let m = files.first;
     let n = files.second;
     shell::rehearse(
+        &rt,
+        &err,
         &crate_path[..m],
         &run_path[..n],
         &mut text,

@@ -1,8 +1,9 @@
 // Opens, reads and writes: hands the bytes of two files to `reader`, and what it printed to standard output. What cannot be had is said on standard error,
-// a line each.
+// a line each. `rt` prints to standard output and opens files, `err` prints to standard error.
 #![tactic(auto)]
 
 mod arguments;
+mod reason;
 mod steps;
 
 ghost use Rattle.std.specs.Prelude.{◌≡◌, true, [], ◌≤◌, length, take};
@@ -10,38 +11,54 @@ ghost use Rattle.dataway.specs.Crate.{empty_crate};
 ghost use Rattle.reader.specs.Reading.{state_of, Held, Ready, Took};
 ghost use Rattle.shell.specs.Handed.{Reached, Closed, Handed};
 
-pub use arguments::{Files, files_named};
-use libc::{STDERR_FILENO, STDOUT_FILENO};
+pub use arguments::{Files, argument_count, files_named};
 use lines::{LINES, has_past};
 use reader::Reader;
+use reason::say_reason;
 use sheet::STEP_ROOM;
+use std::io::{ErrorKind, Read};
+use std::{fs, io, str};
 pub use steps::{Listing, take_list};
 
 // Says something of a file.
-fn say(path: &[u8], what: &[u8]) {
-    io::write_all(STDERR_FILENO, path);
-    io::write_all(STDERR_FILENO, what);
+fn say(err: &impl Print, path: &[u8], what: &[u8]) {
+    let _ = err.write_all(path);
+    let _ = err.write_all(what);
 }
 
 // Says that a file cannot be read, what comes of that, and why.
-fn say_unread(path: &[u8], so: &[u8]) {
-    io::write_all(STDERR_FILENO, b"cannot read ");
-    io::write_all(STDERR_FILENO, path);
-    os::fail(so);
+fn say_unread(err: &impl Print, path: &[u8], so: &[u8], why: &io::Error) {
+    say(err, b"cannot read ", path);
+    say_reason(err, so, why);
+}
+
+// Opens the file at path, which has to be UTF-8.
+fn open_path<R: fs::Files>(rt: &R, path: &[u8]) -> io::Result<R::File> {
+    match str::from_utf8(path) {
+        Ok(name) => fs::open(rt, name),
+        Err(_) => Err(io::Error::new(ErrorKind::InvalidFilename, "its name is not UTF-8")),
+    }
 }
 
 // Opens the file at path. Where it cannot, says that it is missing, or why it cannot be read, and what comes of that.
-fn open(path: &[u8], missing: &[u8], unread: &[u8]) -> i32 {
-    let fd = os::open_read(path);
-    if fd >= 0 {
-        return fd;
+fn open<R: fs::Files>(
+    rt: &R,
+    err: &impl Print,
+    path: &[u8],
+    missing: &[u8],
+    unread: &[u8],
+) -> Option<R::File> {
+    match open_path(rt, path) {
+        Ok(file) => Some(file),
+        Err(why) => {
+            if why.kind() == ErrorKind::NotFound {
+                say(err, path, missing);
+            } else {
+                say_unread(err, path, unread, &why);
+            }
+            None
+        }
     }
-    if os::errno() == libc::ENOENT {
-        say(path, missing);
-        return fd;
-    }
-    say_unread(path, unread);
-    fd
 }
 
 // What a read gave: so many bytes, and none at the end of a file. ok where it did not fail.
@@ -52,20 +69,27 @@ struct Got {
 }
 
 // Reads once. Where it cannot, says so, and what comes of that.
-fn read_some(fd: i32, path: &[u8], text: &mut [u8], unread: &[u8]) -> Got
+fn read_some(
+    file: &mut impl Read,
+    err: &impl Print,
+    path: &[u8],
+    text: &mut [u8],
+    unread: &[u8],
+) -> Got
     ensures { result.count ≤ length text.new }
 {
-    let got = libc::read(fd, text);
-    if got < 0 {
-        say_unread(path, unread);
-        return Got {
-            ok: false,
-            count: 0,
-        };
-    }
-    Got {
-        ok: true,
-        count: io::count(got, text),
+    match file.read(text) {
+        Ok(count) => Got {
+            ok: true,
+            count: count,
+        },
+        Err(why) => {
+            say_unread(err, path, unread, &why);
+            Got {
+                ok: false,
+                count: 0,
+            }
+        }
     }
 }
 
@@ -77,17 +101,18 @@ pub struct Told {
 }
 
 // Writes the first `at` bytes out. Where it cannot, says so.
-pub fn write_out(out: &[u8], at: usize, what: &[u8]) -> Told
+pub fn write_out(rt: &impl Print, err: &impl Print, out: &[u8], at: usize, what: &[u8]) -> Told
     requires { at ≤ length out.now }
     ensures { result.at ≡ at }
 {
-    let ok = io::write_all(STDOUT_FILENO, &out[..at]);
-    if !ok {
-        io::write_all(STDERR_FILENO, b"cannot write ");
-        io::write_all(STDERR_FILENO, what);
-        os::fail(b"; what was written is not all of it");
+    match rt.write_all(&out[..at]) {
+        Ok(()) => Told { ok: true, at: at },
+        Err(why) => {
+            say(err, b"cannot write ", what);
+            say_reason(err, b"; what was written is not all of it", &why);
+            Told { ok: false, at: at }
+        }
     }
-    Told { ok: ok, at: at }
 }
 
 // What a turn of the work left: ok where all that was printed could be written.
@@ -98,7 +123,14 @@ pub struct Turn {
 }
 
 // Writes the output buffer out where it may lack room for one more line.
-fn make_room(s: Reader, line: &[u8], memory: &[u32], out: &[u8]) -> Turn
+fn make_room(
+    rt: &impl Print,
+    err: &impl Print,
+    s: Reader,
+    line: &[u8],
+    memory: &[u32],
+    out: &[u8],
+) -> Turn
     requires held { Held s line.now memory.now out.now }
     requires in_bounds { 8258 ≤ length out.now }
     ensures ready { Ready result.reader line.now memory.now out.now }
@@ -111,7 +143,7 @@ fn make_room(s: Reader, line: &[u8], memory: &[u32], out: &[u8]) -> Turn
             reader: s,
         };
     }
-    let told = write_out(out, at, b"the sheet");
+    let told = write_out(rt, err, out, at, b"the sheet");
     Turn {
         ok: told.ok,
         reader: Reader {
@@ -125,7 +157,15 @@ fn make_room(s: Reader, line: &[u8], memory: &[u32], out: &[u8]) -> Turn
 }
 
 // Takes all of text, unless the output fails.
-fn take_text(text: &[u8], s: Reader, line: &mut [u8], memory: &mut [u32], out: &mut [u8]) -> Turn
+fn take_text(
+    rt: &impl Print,
+    err: &impl Print,
+    text: &[u8],
+    s: Reader,
+    line: &mut [u8],
+    memory: &mut [u32],
+    out: &mut [u8],
+) -> Turn
     requires held { Held s line.old memory.old out.old }
     requires in_bounds { 8258 ≤ length out.old }
     ensures held_2 { Held result.reader line.new memory.new out.new }
@@ -134,7 +174,7 @@ fn take_text(text: &[u8], s: Reader, line: &mut [u8], memory: &mut [u32], out: &
     let mut r = s;
     let mut from = 0;
     while from < text.len() {
-        let room = make_room(r, line, memory, out);
+        let room = make_room(rt, err, r, line, memory, out);
         if !room.ok {
             return room;
         }
@@ -149,7 +189,7 @@ fn take_text(text: &[u8], s: Reader, line: &mut [u8], memory: &mut [u32], out: &
 }
 
 // The file may have bytes that count after text, which led from one state to the other. Lines past the last that is read do not, and that is said.
-fn goes_on(path: &[u8], text: &[u8], before: Reader, after: Reader) -> bool {
+fn goes_on(err: &impl Print, path: &[u8], text: &[u8], before: Reader, after: Reader) -> bool {
     if after.phase >= 2 {
         return false;
     }
@@ -158,7 +198,7 @@ fn goes_on(path: &[u8], text: &[u8], before: Reader, after: Reader) -> bool {
     }
     let past = has_past(text, before.number as usize);
     if past {
-        say(path, b" has lines past 99,999, which are not read\n");
+        say(err, path, b" has lines past 99,999, which are not read\n");
     }
     !past
 }
@@ -173,7 +213,9 @@ pub struct Part {
 
 // Reads once, and takes what was read.
 fn take_some(
-    fd: i32,
+    rt: &impl Print,
+    err: &impl Print,
+    file: &mut impl Read,
     path: &[u8],
     text: &mut [u8],
     s: Reader,
@@ -186,7 +228,13 @@ fn take_some(
     ensures held_2 { Held result.reader line.new memory.new out.new }
     ensures reached { result.ok ≡ true → Reached (state_of s line.old memory.old out.old) (state_of result.reader line.new memory.new out.new) }
 {
-    let got = read_some(fd, path, text, b"; what was not read counts as missing");
+    let got = read_some(
+        file,
+        err,
+        path,
+        text,
+        b"; what was not read counts as missing",
+    );
     let n = got.count;
     if n == 0 {
         return Part {
@@ -195,9 +243,9 @@ fn take_some(
             reader: s,
         };
     }
-    let t = take_text(&text[..n], s, line, memory, out);
+    let t = take_text(rt, err, &text[..n], s, line, memory, out);
     let r = t.reader;
-    let more = goes_on(path, &text[..n], s, r);
+    let more = goes_on(err, path, &text[..n], s, r);
     Part {
         more: more,
         ok: t.ok,
@@ -208,7 +256,9 @@ fn take_some(
 // Reads and takes an open file to its end, or as far as its bytes count. A proved loop has to end, and nothing says that a file does, so the loop counts
 // its turns down from a number that no run uses up.
 fn take_open(
-    fd: i32,
+    rt: &impl Print,
+    err: &impl Print,
+    file: &mut impl Read,
     path: &[u8],
     text: &mut [u8],
     s: Reader,
@@ -225,7 +275,7 @@ fn take_open(
     let mut turns = u64::MAX;
     while turns > 0 {
         turns -= 1;
-        let t = take_some(fd, path, text, r, line, memory, out);
+        let t = take_some(rt, err, file, path, text, r, line, memory, out);
         r = t.reader;
         if !t.ok {
             return Turn {
@@ -247,13 +297,20 @@ fn take_open(
 }
 
 // The end of a file.
-fn end_file(s: Reader, line: &[u8], memory: &mut [u32], out: &mut [u8]) -> Turn
+fn end_file(
+    rt: &impl Print,
+    err: &impl Print,
+    s: Reader,
+    line: &[u8],
+    memory: &mut [u32],
+    out: &mut [u8],
+) -> Turn
     requires held { Held s line.now memory.old out.old }
     requires in_bounds { 8258 ≤ length out.old }
     ensures held_2 { Held result.reader line.now memory.new out.new }
     ensures closed { result.ok ≡ true → Closed (state_of s line.now memory.old out.old) (state_of result.reader line.now memory.new out.new) }
 {
-    let room = make_room(s, line, memory, out);
+    let room = make_room(rt, err, s, line, memory, out);
     if !room.ok {
         return room;
     }
@@ -264,7 +321,9 @@ fn end_file(s: Reader, line: &[u8], memory: &mut [u32], out: &mut [u8]) -> Turn
 }
 
 // Takes the file at path. One that is missing is empty.
-fn take_file(
+fn take_file<R: fs::Files + Print>(
+    rt: &R,
+    err: &impl Print,
     path: &[u8],
     text: &mut [u8],
     s: Reader,
@@ -277,29 +336,31 @@ fn take_file(
     ensures held_2 { Held result.reader line.new memory.new out.new }
     ensures closed { result.ok ≡ true → Closed (state_of s line.old memory.old out.old) (state_of result.reader line.new memory.new out.new) }
 {
-    let fd = open(
+    let opened = open(
+        rt,
+        err,
         path,
         b" is missing; it counts as empty\n",
         b"; what was not read counts as missing",
     );
-    if fd < 0 {
-        return end_file(s, line, memory, out);
-    }
-    let t = take_open(fd, path, text, s, line, memory, out);
-    libc::close(fd);
+    let Some(mut file) = opened else {
+        return end_file(rt, err, s, line, memory, out);
+    };
+    let t = take_open(rt, err, &mut file, path, text, s, line, memory, out);
+    drop(file);
     if !t.ok {
         return t;
     }
-    end_file(t.reader, line, memory, out)
+    end_file(rt, err, t.reader, line, memory, out)
 }
 
 // Writes out what is left in the output buffer.
-fn flush(s: Reader, out: &[u8]) -> Turn
+fn flush(rt: &impl Print, err: &impl Print, s: Reader, out: &[u8]) -> Turn
     requires { s.at ≤ length out.now }
     ensures { result.reader ≡ s }
 {
     let at = s.at;
-    let told = write_out(out, at, b"the sheet");
+    let told = write_out(rt, err, out, at, b"the sheet");
     Turn {
         ok: told.ok,
         reader: s,
@@ -308,7 +369,9 @@ fn flush(s: Reader, out: &[u8]) -> Turn
 
 // Rehearses the run of one file on the crate of another, in lent buffers: text for what is read, line for a line's first bytes, memory for the crate, which
 // is empty at first, and out for what is printed. What was written last is still in `out`, and it is the end of a sheet.
-pub fn rehearse(
+pub fn rehearse<R: fs::Files + Print>(
+    rt: &R,
+    err: &impl Print,
     crate_path: &[u8],
     run_path: &[u8],
     text: &mut [u8],
@@ -326,13 +389,13 @@ pub fn rehearse(
         previous: 0,
         at: 0,
     };
-    let built = take_file(crate_path, text, start, line, memory, out);
+    let built = take_file(rt, err, crate_path, text, start, line, memory, out);
     if !built.ok {
         return built;
     }
     let c = built.reader;
     if c.phase >= 2 {
-        return flush(c, out);
+        return flush(rt, err, c, out);
     }
     let second = Reader {
         fill: 0,
@@ -341,9 +404,9 @@ pub fn rehearse(
         previous: 0,
         at: c.at,
     };
-    let ran = take_file(run_path, text, second, line, memory, out);
+    let ran = take_file(rt, err, run_path, text, second, line, memory, out);
     if !ran.ok {
         return ran;
     }
-    flush(ran.reader, out)
+    flush(rt, err, ran.reader, out)
 }

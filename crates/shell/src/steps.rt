@@ -6,6 +6,8 @@ ghost use Rattle.shell.specs.Handed.{Listed, Stored};
 use crate::{open, read_some, say};
 use lines::has_past;
 use listfile::ListReader;
+use std::io::Read;
+use std::rt::Files;
 
 // What one read left: more where the file may have bytes that count, whole where none was lost.
 #[derive(Clone, Copy)]
@@ -17,7 +19,8 @@ pub struct ListPart {
 
 // Reads once, and takes what was read.
 fn take_part(
-    fd: i32,
+    err: &impl Print,
+    file: &mut impl Read,
     path: &[u8],
     text: &mut [u8],
     s: ListReader,
@@ -29,7 +32,7 @@ fn take_part(
     ensures held_2 { Held result.reader line.new words.new }
     ensures listed_2 { result.whole ≡ true → Listed (state_of result.reader line.new words.new) }
 {
-    let got = read_some(fd, path, text, b"; no verdict");
+    let got = read_some(file, err, path, text, b"; no verdict");
     let n = got.count;
     if n == 0 {
         return ListPart {
@@ -40,7 +43,7 @@ fn take_part(
     }
     let past = has_past(&text[..n], s.number);
     if past {
-        say(path, b" has lines past 99,999; no verdict\n");
+        say(err, path, b" has lines past 99,999; no verdict\n");
         return ListPart {
             more: false,
             whole: false,
@@ -63,7 +66,8 @@ pub struct ListTurn {
 
 // Reads and takes an open file to its end; the turns are counted down as in `take_open`.
 fn take_parts(
-    fd: i32,
+    err: &impl Print,
+    file: &mut impl Read,
     path: &[u8],
     text: &mut [u8],
     s: ListReader,
@@ -79,7 +83,7 @@ fn take_parts(
     let mut turns = u64::MAX;
     while turns > 0 {
         turns -= 1;
-        let t = take_part(fd, path, text, r, line, words);
+        let t = take_part(err, file, path, text, r, line, words);
         r = t.reader;
         if !t.whole {
             return ListTurn {
@@ -109,20 +113,27 @@ pub struct Listing {
 
 // Stores the steps of the run file at path in the first words. A file that is missing, cannot be read, or has lines past the last that is read, is not
 // whole, and that is said.
-pub fn take_list(path: &[u8], text: &mut [u8], line: &mut [u8], words: &mut [u32]) -> Listing
+pub fn take_list<R: Files>(
+    rt: &R,
+    err: &impl Print,
+    path: &[u8],
+    text: &mut [u8],
+    line: &mut [u8],
+    words: &mut [u32],
+) -> Listing
     requires { (length line.old ≡ 81) × (length words.old ≡ 599994) }
     ensures { result.whole ≡ true → Stored result.count words.new }
 {
     let start = ListReader { fill: 0, number: 0 };
-    let fd = open(path, b" is missing; no verdict\n", b"; no verdict");
-    if fd < 0 {
+    let opened = open(rt, err, path, b" is missing; no verdict\n", b"; no verdict");
+    let Some(mut file) = opened else {
         return Listing {
             whole: false,
             count: 0,
         };
-    }
-    let read = take_parts(fd, path, text, start, line, words);
-    libc::close(fd);
+    };
+    let read = take_parts(err, &mut file, path, text, start, line, words);
+    drop(file);
     if !read.whole {
         return Listing {
             whole: false,

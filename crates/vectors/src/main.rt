@@ -2,18 +2,20 @@
 // purpose. Then runs, as `rehearse` does without arguments, run.txt on the crate of crate.txt.
 #![tactic(auto)]
 
-use libc::STDOUT_FILENO;
+use std::rt::{Env, Files};
 
 // The number of the last scenario.
 const CASES: u8 = 94;
 
 // Rehearses one file on the crate of another.
-fn rehearse(crate_path: &[u8], run_path: &[u8]) {
-    let mut text = io::large_buffer();
+fn rehearse<R: Files + Print>(rt: &R, err: &impl Print, crate_path: &[u8], run_path: &[u8]) {
+    let mut text = [0u8; 65536];
     let mut line = [0u8; 81];
     let mut memory = [0u32; 768];
-    let mut out = io::large_buffer();
+    let mut out = [0u8; 65536];
     shell::rehearse(
+        rt,
+        err,
         crate_path,
         run_path,
         &mut text,
@@ -24,22 +26,24 @@ fn rehearse(crate_path: &[u8], run_path: &[u8]) {
 }
 
 // Runs scenario k.
-fn scenario(k: u8) {
+fn scenario<R: Files + Print>(rt: &R, err: &impl Print, k: u8) {
     let tens = 48 + k / 10 % 10;
     let ones = 48 + k % 10;
     let crate_path = [tens, ones, b'.', b'c', b'r', b'a', b't', b'e'];
     let run_path = [tens, ones, b'.', b'r', b'u', b'n'];
     let head = [b'c', b'a', b's', b'e', b'=', tens, ones, b'\n'];
-    io::write_all(STDOUT_FILENO, &head);
-    rehearse(&crate_path, &run_path);
+    let _ = rt.write_all(&head);
+    rehearse(rt, err, &crate_path, &run_path);
 }
 
 // Runs the files that a program is started on without arguments.
-fn without_arguments() {
-    io::write_all(STDOUT_FILENO, b"case=usual\n");
-    let mut crate_path = io::buffer();
-    let mut run_path = io::buffer();
+fn without_arguments<R: Files + Env + Print>(rt: &R, err: &impl Print) {
+    let _ = rt.write_all(b"case=usual\n");
+    let mut crate_path = [0u8; 4096];
+    let mut run_path = [0u8; 4096];
     let files = shell::files_named(
+        rt,
+        err,
         b"crate.txt",
         b"run.txt",
         b"usage: vectors    takes no argument\n",
@@ -49,15 +53,14 @@ fn without_arguments() {
     if files.ok {
         let m = files.first;
         let n = files.second;
-        rehearse(&crate_path[..m], &run_path[..n]);
+        rehearse(rt, err, &crate_path[..m], &run_path[..n]);
     }
 }
 
-fn main() {
-    let mut k: u8 = 1;
-    while k <= CASES {
-        scenario(k);
-        k += 1;
+fn main(rt: HostRuntime) {
+    let err = rt.stderr();
+    for k in 1..=CASES {
+        scenario(&rt, &err, k);
     }
-    without_arguments();
+    without_arguments(&rt, &err);
 }
