@@ -10,8 +10,8 @@
 #
 # Ends with 0 where all of it is built from these sources, else with 2.
 
-# the kit that the figures of README.md and the gate are of
-kit='rattle-kit-5b-plain logic 097e4c862dff5811'
+# the kit that the gate is of
+kit='rattle-kit-13f logic dac8208d650f15bf'
 
 fail() {
     printf 'build.sh: %s\n' "$1" >&2
@@ -44,7 +44,7 @@ built() {
 }
 
 # a sum of all sources, and of what was built
-sources=$({ find crates crates.txt -type f -exec sha256sum {} + | LC_ALL=C sort | sha256sum; } 2>/dev/null) && [ "$sources" ] || fail "the sources cannot be read"
+sources=$({ find crates crates.txt -name out -prune -o -type f -exec sha256sum {} + | LC_ALL=C sort | sha256sum; } 2>/dev/null) && [ "$sources" ] || fail "the sources cannot be read"
 sums() {
     echo "$sources"
     sha256sum <"$(built "$1")"
@@ -62,12 +62,20 @@ done
 [ "$stale" ] || exit 0
 
 command -v rt >/dev/null || fail "not built from these sources:$stale; and rt, the command of the Rattle kit, which builds it, is not on the path"
-[ "$(rt version)" = "$kit" ] || echo "build.sh: this kit is $(rt version); README's figures and the gate are of $kit" >&2
+[ "$(rt version)" = "$kit" ] || echo "build.sh: this kit is $(rt version); the gate is of $kit" >&2
 echo "build.sh: building$stale, with the proof of all that it rests on; this may take some minutes" >&2
-mkdir -p target/built || fail "no folder $root/target/built"
+mkdir -p target/built target/bin target/staticlib || fail "no folder $root/target/built, $root/target/bin or $root/target/staticlib"
+
+# Builds a name with its proof. rt builds a program by running it, so it is run on nothing, in the folder of its crate.
+build() {
+    case $1 in
+        library) cd crates/capi_c && rt lib && made=out/libcapi_c.a ;;
+        *) cd "crates/$1" && rt run </dev/null && made=out/$1 ;;
+    esac && cp "$made" "$root/$(built "$1")"
+}
+
 for name in $stale; do
-    case $name in library) set -- staticlib capi ;; *) set -- check "$name" ;; esac
-    rm -f "target/built/$name"
-    rt "$@" >"target/built/$name.log" 2>&1 || fail "$name could not be built; see $root/target/built/$name.log"
+    rm -f "target/built/$name" "$(built "$name")"
+    (build "$name") >"target/built/$name.log" 2>&1 || fail "$name could not be built; see $root/target/built/$name.log"
     sums "$name" >"target/built/$name" || fail "it could not be noted what $name was built from"
 done
