@@ -1,3 +1,2 @@
 pub mod Entries
-pub mod AdmitLaws
 pub mod RuleLaws

@@ -17,51 +17,35 @@ pub enum Class {
 }
 
 // The table: a row for each kind from 0 to 5, in it a digit for each function from 0 to 31, the number of its class.
-const CLASSES: [u8; 192] = *b"\
-    00000000000000000000000000000000\
-    13110000212400000505000421220000\
-    10110000010000001010010000000000\
-    13110000212400000505000420220000\
-    63660000262400000505000420220000\
-    13110000212400001505000420220000";
+const CLASSES: [[u8; 32]; 6] = [
+    *b"00000000000000000000000000000000",
+    *b"13110000212400000505000421220000",
+    *b"10110000010000001010010000000000",
+    *b"13110000212400000505000420220000",
+    *b"63660000262400000505000420220000",
+    *b"13110000212400001505000420220000",
+];
 
 // The number of a class, 0 to 6.
 pub fn class_number(class: Class) -> u32
     ensures { result ≡ class_number class }
 {
-    match class {
-        Class::None => 0,
-        Class::BelowR => 1,
-        Class::BelowS => 2,
-        Class::A12ToA14 => 3,
-        Class::A12AndA13 => 4,
-        Class::A13Only => 5,
-        Class::A0Only => 6,
-    }
+    class as u32
 }
 
-// The table's digit for a kind at function f. Each arm reads its own row, and f % 32 shows that it stays in it: the compiler builds an array anew at each reading,
-// and so builds that row alone.
+// The table's digit for a kind at function f.
 fn digit(kind: u32, f: u32) -> u8
-    requires fact_1 { kind < 6 }
-    requires fact_2 { f < 32 }
+    requires kind { kind < 6 }
+    requires f_bound { f < 32 }
     ensures { result ≡ digit_of (class_of kind f) }
 {
-    let i = (f % 32) as usize;
-    match kind {
-        0 => CLASSES[i],
-        1 => CLASSES[32 + i],
-        2 => CLASSES[2 * 32 + i],
-        3 => CLASSES[3 * 32 + i],
-        4 => CLASSES[4 * 32 + i],
-        _ => CLASSES[5 * 32 + i],
-    }
+    CLASSES[kind as usize][f as usize]
 }
 
-// The class of a kind at function f.
+// The class of a kind at function f: that of the table's digit. A conversion From a byte would have to give the bytes that are no digit a class too.
 pub fn class_of(kind: u32, f: u32) -> Class
-    requires fact_1 { kind < 6 }
-    requires fact_2 { f < 32 }
+    requires kind { kind < 6 }
+    requires f_bound { f < 32 }
     ensures { result ≡ class_of kind f }
 {
     match digit(kind, f) {
@@ -75,7 +59,7 @@ pub fn class_of(kind: u32, f: u32) -> Class
     }
 }
 
-// Subaddresses from `first` up to `past`, which is not among them.
+// Subaddresses from `first` up to `past`, which is not among them. No Range of std, which is not Copy: a transfer hands its span to each cycle.
 #[derive(Clone, Copy)]
 pub struct Span {
     pub first: u32,
@@ -83,6 +67,7 @@ pub struct Span {
 }
 
 // The subaddresses of a class, of a module with r registers and s sources.
+#[tactic(auto, using(std::proofs::lemmas::Bool::Decides::nat_tests), unfolding(crate::specs::Classes::admits))]
 pub fn span_of(class: Class, r: u32, s: u32) -> Span
     ensures { Spans result class r s }
 {
@@ -110,5 +95,5 @@ pub fn span_of(class: Class, r: u32, s: u32) -> Span
 pub fn has(span: Span, a: u32) -> bool
     ensures { result ≡ is_in span a }
 {
-    span.first <= a && a < span.past
+    (span.first..span.past).contains(&a)
 }

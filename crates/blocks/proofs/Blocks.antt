@@ -165,11 +165,12 @@ set-is-put m n w v lm hn hw =
 -- ---- a block lent to a call
 
 -- the part of a memory that the code lends, from 32 n up to 32 n + 32, is block n
-pub part-block : (m : List ℕ) (n : ℕ) → mid_of (32 * n) (32 * n + 32 - 32 * n) m ≡ block_of m n
-unfolding block_of
-part-block m n = rw (add-sub_cancel_left (32 * n) 32)
+module _ (m : List ℕ) (n from to : ℕ) (e : from ≡ 32 * n) (f : to ≡ 32 * n + 32) where
+  pub part-block : mid_of from (to - from) m ≡ block_of m n
+  unfolding block_of
+  part-block = rw (e, f, add-sub_cancel_left (32 * n) 32)
 
--- and what comes back takes its place
-pub part-back : (m : List ℕ) (n : ℕ) (b : List ℕ) → put_mid (32 * n) (32 * n + 32 - 32 * n) m b ≡ with_block m n b
-unfolding with_block
-part-back m n b = rw (add-sub_cancel_left (32 * n) 32, drop-drop 32 (32 * n) m)
+  -- and what comes back takes its place
+  pub part-back : (b : List ℕ) → put_mid from (to - from) m b ≡ with_block m n b
+  unfolding with_block
+  part-back b = rw (e, f, add-sub_cancel_left (32 * n) 32, drop-drop 32 (32 * n) m)

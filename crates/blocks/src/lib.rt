@@ -9,4 +9,4 @@ pub const BLOCK_WORDS: usize = 32;
 pub const STATIONS: usize = 23;
 
 // The words of the whole memory.
-pub const MEMORY_WORDS: usize = 768;
+pub const MEMORY_WORDS: usize = BLOCK_WORDS * (1 + STATIONS);

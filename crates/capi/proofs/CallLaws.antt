@@ -13,9 +13,6 @@ use Rattle.dataway.specs.Crate.{is_fit_crate}
 use Rattle.step.specs.Refusals.{refusal_number}
 use Rattle.step.specs.declared.Refusal.{Refusal}
 use Rattle.step.specs.declared.Refusal.TheVariants.{ShortBuffer, UnfitCrate}
-use Rattle.step.specs.declared.Reading.{Reading}
-use Rattle.step.specs.declared.Reading.TheVariants.{Bad}
-use Rattle.step.specs.declared.Verdict.{Verdict}
 use Rattle.runfile.specs.Read.{read_line, read_module}
 use Rattle.controller.specs.Answers.{answer_words}
 use Rattle.controller.specs.Steps.{Performed, order, performed, refused, done_of, step_of}
@@ -26,6 +23,8 @@ use Rattle.lists.specs.Runs.{list_of}
 use Rattle.rehearsal.specs.Modules.{install_of}
 use Rattle.step.specs.Refusals.{verdict_number}
 use Rattle.capi.specs.Calls.{answer_number, with_answer, Called, told, unless_unfit, if_lent, step_call, line_call, installed_call, crate_call, ran_call, list_call}
+use Rattle.std.specs.Prelude.{Err}
+use Rattle.step.specs.Results.{Reading, Verdict}
 
 -- ---- the words of a step
 -- words past the sixth are not looked at
@@ -49,11 +48,11 @@ unfolding unless_unfit
 unless_not m q t = rw t
 
 -- a garbled step: 9, else its refusal
-pub step-bad : (m b : List ℕ) (q : Refusal) → step_of m (order (Bad q) b) ≡ refused (unless_unfit m q) m b
+pub step-bad : (m b : List ℕ) (q : Refusal) → step_of m (order (Err q) b) ≡ refused (unless_unfit m q) m b
 unfolding step_of done_of unless_unfit
 step-bad m b q = go (is_fit_crate m)
   where
-    go : (t : Bool) → cond t (done_of m (order (Bad q) b)) (refused UnfitCrate m b) ≡ refused (cond t q UnfitCrate) m b
+    go : (t : Bool) → cond t (done_of m (order (Err q) b)) (refused UnfitCrate m b) ≡ refused (cond t q UnfitCrate) m b
     go true = refl
     go false = refl
 
@@ -62,8 +61,8 @@ module _ (m ws b : List ℕ) (reading : Reading) (h : 6 ≤ length ws) (e : read
   pub words-read : (x : Reading) (p : Performed) → reading ≡ x → step_of m (order x b) ≡ p → step_of m (order (reading_of ws) b) ≡ p
   words-read x p g d = ap (λ (y : Reading). step_of m (order y b)) (sym (reading-six ws h) ∙ sym e ∙ g) ∙ d
 
-  pub words-bad : (q r : Refusal) → reading ≡ Bad q → r ≡ unless_unfit m q → step_of m (order (reading_of ws) b) ≡ performed m (Refused r) b
-  words-bad q r g d = words-read (Bad q) _ g (step-bad m b q ∙ ap (λ (x : Refusal). refused x m b) (sym d))
+  pub words-bad : (q r : Refusal) → reading ≡ Err q → r ≡ unless_unfit m q → step_of m (order (reading_of ws) b) ≡ performed m (Refused r) b
+  words-bad q r g d = words-read (Err q) _ g (step-bad m b q ∙ ap (λ (x : Refusal). refused x m b) (sym d))
 
 -- ---- a step or a run line, told
 -- where four words are lent for the answer

@@ -9,10 +9,6 @@ use lib.ListN.{length}
 use Rattle.dataway.specs.Crate.{is_fit_crate}
 use Rattle.step.specs.declared.Refusal.TheVariants.{ShortBuffer, UnfitCrate}
 use Rattle.kinds.specs.declared.Module.{Module}
-use Rattle.step.specs.declared.ModuleLine.{ModuleLine}
-use Rattle.step.specs.declared.ModuleLine.TheVariants.{Holds, Bad}
-use Rattle.step.specs.declared.Verdict.{Verdict}
-use Rattle.step.specs.declared.Verdict.TheVariants.{Fine, Refuse}
 use Rattle.runfile.specs.Read.{read_line, read_module}
 use Rattle.controller.specs.Steps.{Order, order, step_of}
 use Rattle.controller.specs.declared.Answer.{Answer}
@@ -24,6 +20,8 @@ use Rattle.controller.specs.Placing.{place_verdict, uninstalled, judged_module_o
 use Rattle.rehearsal.specs.Modules.{install_of}
 use Rattle.capi.specs.Calls.{answer_number, if_lent, step_call, line_call, crate_call, list_call}
 use Rattle.step.specs.Refusals.{verdict_number}
+use Rattle.std.specs.Prelude.{Ok, Err}
+use Rattle.step.specs.Results.{ModuleLine, Verdict}
 
 -- a step that is not told as 0 is refused
 told_same : (m : List ℕ) (o : Order) (a : Answer) → (step_of m o).out.answer ≡ a → (answer_number a ≡ 0 → ⊥)
@@ -56,13 +54,13 @@ unfolding crate_call install_of place_of
 crate-same m previous l h = go (is_fit_crate m) (read_module l) h
   where
     judged : (v : Verdict) (p : Module) → (verdict_number (judged_module_of v p m).verdict ≡ 0 → ⊥) → (judged_module_of v p m).memory ≡ m
-    judged Fine p h = absurd (h refl)
-    judged (Refuse q) p h = refl
+    judged (Ok _) p h = absurd (h refl)
+    judged (Err q) p h = refl
 
     go : (t : Bool) (x : ModuleLine) → (verdict_number (cond t (place_of m previous x) (uninstalled UnfitCrate m)).verdict ≡ 0 → ⊥)
         → (cond t (place_of m previous x) (uninstalled UnfitCrate m)).memory ≡ m
-    go true (Holds p) h = judged (place_verdict m previous p) p h
-    go true (Bad q) h = refl
+    go true (Ok p) h = judged (place_verdict m previous p) p h
+    go true (Err q) h = refl
     go false x h = refl
 
 pub list_same : (m : List ℕ) (count : ℕ) (ws ans bs : List ℕ) → ((list_call m count ws ans bs).number ≡ 0 → ⊥)

@@ -8,14 +8,13 @@ use native.Mathlib.Omega.{arith}
 use lib.ListN.{length}
 use Rattle.dataway.specs.Crate.{is_fit_crate}
 use Rattle.step.specs.declared.Refusal.TheVariants.{UnfitCrate}
-use Rattle.step.specs.declared.Verdict.{Verdict}
-use Rattle.step.specs.declared.Verdict.TheVariants.{Fine, Refuse}
 use Rattle.step.proofs.Numbers.{numbered}
 use Rattle.windows.specs.Sheets.{FlaggedSheet, unflagged, sheet_verdict, judged_sheet, sheet_of}
-use Rattle.windows.specs.declared.sheets.Flagging.{Flagging}
-use Rattle.windows.specs.declared.sheets.Flagging.TheVariants.{Flagged, Refused}
 use Rattle.rehearsal.specs.Windows.{sheet_call}
 use Rattle.capi.specs.Windows.{flagging_number, flagging_count, WindowsCalled, flagged_call, windows_call}
+use Rattle.std.specs.Prelude.{Ok, Err}
+use Rattle.step.specs.Results.{Verdict}
+use Rattle.windows.specs.Sheets.{Flagging}
 
 module _ (m : List ℕ) (n to : ℕ) (sheet flags : List ℕ) (before : ℕ) where
   pub windows-told : (f : Flagging) (number count : ℕ) (after : List ℕ)
@@ -35,16 +34,16 @@ module _ (m : List ℕ) (n to : ℕ) (sheet flags : List ℕ) (before : ℕ) whe
       call t v = flagged_call (cond t (judged_sheet v m n to sheet flags) (unflagged UnfitCrate flags)) before
 
       go : (t : Bool) (v : Verdict) → ((call t v).number ≡ 0 → ⊥) → ((call t v).flags ≡ flags) × ((call t v).count ≡ before)
-      go true Fine h = absurd (h refl)
-      go true (Refuse q) h = (refl, refl)
+      go true (Ok _) h = absurd (h refl)
+      go true (Err q) h = (refl, refl)
       go false v h = (refl, refl)
 
   -- where it is 0 the call is answered, with the count that the word then holds: so what `rehearsal/specs/Windows` says of such a call holds
   pub windows-zero : (windows_call m n to sheet flags before).number ≡ 0
-      → (sheet_call m n to sheet flags).answer ≡ Flagged (windows_call m n to sheet flags before).count
+      → (sheet_call m n to sheet flags).answer ≡ Ok (windows_call m n to sheet flags before).count
   unfolding windows_call
   windows-zero e = go (sheet_call m n to sheet flags).answer e
     where
-      go : (f : Flagging) → flagging_number f ≡ 0 → f ≡ Flagged (flagging_count f before)
-      go (Flagged k) e = refl
-      go (Refused q) e = absurd (omega (arith, (numbered q).low, e))
+      go : (f : Flagging) → flagging_number f ≡ 0 → f ≡ Ok (flagging_count f before)
+      go (Ok k) e = refl
+      go (Err q) e = absurd (omega (arith, (numbered q).low, e))

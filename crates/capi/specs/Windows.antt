@@ -1,20 +1,19 @@
 -- The call of the C library for a sheet of windows: the number that it returns, and all that it leaves of the words that it is lent.
-use Rattle.std.specs.Prelude.{ℕ, List}
+use Rattle.std.specs.Prelude.{ℕ, List, Ok, Err}
 use Rattle.step.specs.Refusals.{refusal_number}
 use Rattle.windows.specs.Sheets.{FlaggedSheet}
-use Rattle.windows.specs.declared.sheets.Flagging.{Flagging}
-use Rattle.windows.specs.declared.sheets.Flagging.TheVariants.{Flagged, Refused}
 use Rattle.rehearsal.specs.Windows.{sheet_call}
+use Rattle.windows.specs.Sheets.{Flagging}
 
 -- the number that a call with this answer returns: 0, or that of the refusal
 abbrev pub flagging_number : Flagging → ℕ
-flagging_number (Flagged count) = 0
-flagging_number (Refused q) = refusal_number q
+flagging_number (Ok count) = 0
+flagging_number (Err q) = refusal_number q
 
 -- the word lent for the count, which held this before: a refusal leaves it
 abbrev pub flagging_count : Flagging → ℕ → ℕ
-flagging_count (Flagged count) before = count
-flagging_count (Refused q) before = before
+flagging_count (Ok count) before = count
+flagging_count (Err q) before = before
 
 -- what the call returns and leaves
 pub record WindowsCalled : Type 0 where

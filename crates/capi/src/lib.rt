@@ -13,8 +13,7 @@ ghost use Rattle.step.specs.Refusals.{verdict_number};
 use controller::Answer;
 use dataway::fitness::is_fit_crate;
 use lists::{ANSWER_WORDS, STEP_WORDS};
-use step::{Reading, Refusal, Verdict};
-use windows::sheets::Flagging;
+use step::{Refusal, Step};
 
 // A refusal of a call on a lent memory: first 9.
 fn unless_unfit(memory: &[u32], q: Refusal) -> Refusal
@@ -32,24 +31,21 @@ fn answer_number(answer: Answer) -> u32
 {
     match answer {
         Answer::Refused(q) => step::refusal_number(q),
-        Answer::Replied(_) => 0,
-        Answer::Taken(_) => 0,
-        Answer::Done => 0,
-        Answer::Looked(_) => 0,
-        Answer::Transferred(_) => 0,
-        Answer::Wrote(_) => 0,
-        Answer::Listed(_) => 0,
+        Answer::Replied(_)
+        | Answer::Taken(_)
+        | Answer::Done
+        | Answer::Looked(_)
+        | Answer::Transferred(_)
+        | Answer::Wrote(_)
+        | Answer::Listed(_) => 0,
     }
 }
 
 // The number that a call with this verdict returns.
-fn verdict_number(verdict: Verdict) -> u32
+fn verdict_number(verdict: Result<(), Refusal>) -> u32
     ensures { result ≡ verdict_number verdict }
 {
-    match verdict {
-        Verdict::Fine => 0,
-        Verdict::Refuse(q) => step::refusal_number(q),
-    }
+    verdict.err().map_or(0, step::refusal_number)
 }
 
 // Stores an answer in the first four words lent for it.
@@ -69,8 +65,8 @@ fn run_words(memory: &mut [u32], words: &[u32], buffer: &mut [u32]) -> Answer
 {
     let reading = lists::read_step(&words[0..STEP_WORDS]);
     match reading {
-        Reading::Good(s) => rehearsal::run_step(memory, s, buffer),
-        Reading::Bad(q) => Answer::Refused(unless_unfit(memory, q)),
+        Ok(s) => rehearsal::run_step(memory, s, buffer),
+        Err(q) => Answer::Refused(unless_unfit(memory, q)),
     }
 }
 
@@ -134,23 +130,17 @@ pub fn pagontxu_list(
 }
 
 // The number that a call with this answer returns.
-fn flagging_number(flagging: Flagging) -> u32
+fn flagging_number(flagging: Result<u32, Refusal>) -> u32
     ensures { result ≡ flagging_number flagging }
 {
-    match flagging {
-        Flagging::Flagged(_) => 0,
-        Flagging::Refused(q) => step::refusal_number(q),
-    }
+    flagging.err().map_or(0, step::refusal_number)
 }
 
 // What the word for the count holds after a call with this answer, where it held `before`: a refusal leaves it.
-fn flagging_count(flagging: Flagging, before: u32) -> u32
+fn flagging_count(flagging: Result<u32, Refusal>, before: u32) -> u32
     ensures { result ≡ flagging_count flagging before }
 {
-    match flagging {
-        Flagging::Flagged(count) => count,
-        Flagging::Refused(_) => before,
-    }
+    flagging.unwrap_or(before)
 }
 
 // A sheet of up to 64 windows over stations n to `to`, with 16 flag words a station and a word for the count of registers read.

@@ -57,5 +57,5 @@ fn main(rt: HostRuntime) {
     }
     let mut out = [0u8; 4096];
     let n = put_table(&mut out);
-    shell::write_out(&rt, &err, &out, n, b"the table");
+    let _ = shell::write_out(&rt, &err, &out, n, b"the table");
 }

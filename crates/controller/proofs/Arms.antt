@@ -24,10 +24,6 @@ use Rattle.windows.specs.Within.{within_of, listed_in}
 use Rattle.step.specs.Verdict.{step_verdict, short_verdict, is_fine, places_of}
 use Rattle.step.proofs.Fine.{transfer-one-of, command-fine, front-fine, inhibit-fine, scan-fields, repeat-fields, stop-fields, narrow_at, put-fields, put-lent-fields, within-fields}
 use Rattle.step.specs.declared.Refusal.{Refusal}
-use Rattle.step.specs.declared.Reading.{Reading}
-use Rattle.step.specs.declared.Reading.TheVariants.{Good, Bad}
-use Rattle.step.specs.declared.Verdict.{Verdict}
-use Rattle.step.specs.declared.Verdict.TheVariants.{Fine, Refuse}
 use Rattle.step.specs.declared.Step.{Step}
 use Rattle.step.specs.declared.Step.TheVariants.{Command, Front, Z, C, Inhibit, LookAtMe, Scan, Repeat, Stop, Put, PutLent, Processor, Within}
 use Rattle.step.specs.declared.Short.{Short}
@@ -38,6 +34,8 @@ use Rattle.controller.specs.declared.Answer.{Answer}
 use Rattle.controller.specs.declared.Answer.TheVariants.{Replied, Taken, Done, Looked, Transferred, Wrote, Listed, Refused}
 use Rattle.controller.specs.Steps.{order, Performed, performed, short_of, act_of, judged_of, done_of}
 use Rattle.controller.proofs.StepLaws.{done-fit}
+use Rattle.std.specs.Prelude.{Ok, Err}
+use Rattle.step.specs.Results.{Reading, Verdict}
 
 -- ---- what the calls ask for
 module _ (s : Step) (b : List ℕ) (good : is_fine (step_verdict s b) ≡ true) where
@@ -177,22 +175,22 @@ pub within-acts : (s : Step) (m b b' : List ℕ) (n to lo hi : ℕ) (count : ℕ
 within-acts s m b b' n to lo hi count e p q = rw (e, p, q)
 
 -- ---- a step that is judged first
-fine-done : (m b : List ℕ) (s : Step) → step_verdict s b ≡ Fine → done_of m (order (Good s) b) ≡ act_of m s b
+fine-done : (m b : List ℕ) (s : Step) → step_verdict s b ≡ Ok tt → done_of m (order (Ok s) b) ≡ act_of m s b
 unfolding done_of
 fine-done m b s e = ap (λ (w : Verdict). judged_of w m s b) e
 
 module _ (m b : List ℕ) (f : FitCrate m) where
-  pub refused-done : (s : Step) (v : Verdict) (q : Refusal) → v ≡ step_verdict s b → v ≡ Refuse q
-      → (done_of m (order (Good s) b) ≡ performed m (Refused q) b) × FitCrate m
+  pub refused-done : (s : Step) (v : Verdict) (q : Refusal) → v ≡ step_verdict s b → v ≡ Err q
+      → (done_of m (order (Ok s) b) ≡ performed m (Refused q) b) × FitCrate m
   unfolding done_of
   refused-done s v q e h = (ap (λ (w : Verdict). judged_of w m s b) (sym e ∙ h), f)
 
-  pub acted-done : (s : Step) (v : Verdict) (m' b' : List ℕ) (r : Answer) → v ≡ step_verdict s b → v ≡ Fine → act_of m s b ≡ performed m' r b'
-      → (done_of m (order (Good s) b) ≡ performed m' r b') × FitCrate m'
+  pub acted-done : (s : Step) (v : Verdict) (m' b' : List ℕ) (r : Answer) → v ≡ step_verdict s b → v ≡ Ok tt → act_of m s b ≡ performed m' r b'
+      → (done_of m (order (Ok s) b) ≡ performed m' r b') × FitCrate m'
   acted-done s v m' b' r e h a =
-      let d : done_of m (order (Good s) b) ≡ performed m' r b' = fine-done m b s (sym e ∙ h) ∙ a in
-      (d, subst FitCrate (ap (λ (p : Performed). p.memory) d) (done-fit m (order (Good s) b) f))
+      let d : done_of m (order (Ok s) b) ≡ performed m' r b' = fine-done m b s (sym e ∙ h) ∙ a in
+      (d, subst FitCrate (ap (λ (p : Performed). p.memory) d) (done-fit m (order (Ok s) b) f))
 
-  pub bad-done : (r : Reading) (q : Refusal) → r ≡ Bad q → (done_of m (order r b) ≡ performed m (Refused q) b) × FitCrate m
+  pub bad-done : (r : Reading) (q : Refusal) → r ≡ Err q → (done_of m (order r b) ≡ performed m (Refused q) b) × FitCrate m
   unfolding done_of
   bad-done r q e = (rw e, f)

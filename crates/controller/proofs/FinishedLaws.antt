@@ -21,38 +21,37 @@ use Rattle.step.proofs.Fine.{command-fine, scan-fields}
 use Rattle.step.specs.declared.Refusal.TheVariants.{UnfitCrate}
 use Rattle.step.specs.declared.Step.{Step}
 use Rattle.step.specs.declared.Step.TheVariants.{Command, Front, Z, C, Inhibit, LookAtMe, Scan, Repeat, Stop, Put, PutLent, Processor, Within}
-use Rattle.step.specs.declared.Reading.TheVariants.{Good}
-use Rattle.step.specs.declared.Verdict.{Verdict}
-use Rattle.step.specs.declared.Verdict.TheVariants.{Fine, Refuse}
 use Rattle.controller.specs.Steps.{order, Performed, refused, act_of, judged_of, done_of, step_of, leaves, gives}
 use Rattle.controller.specs.Finished.{Scanned, FinishedScan, RepliesAreWords}
 use Rattle.controller.proofs.Sentences.{is_refused}
 use Rattle.controller.specs.declared.Answer.{Answer}
 use Rattle.controller.specs.declared.Answer.TheVariants.{Replied, Taken, Done, Looked, Transferred, Wrote, Listed, Refused}
+use Rattle.std.specs.Prelude.{Ok, Err}
+use Rattle.step.specs.Results.{Verdict}
 
 -- ---- a step whose answer is no refusal was done
 pub record Did (m : List ℕ) (s : Step) (b : List ℕ) : Type 0 where
   pub fit : FitCrate m
   pub fine : is_fine (step_verdict s b) ≡ true
-  pub did : step_of m (order (Good s) b) ≡ act_of m s b
+  pub did : step_of m (order (Ok s) b) ≡ act_of m s b
 
 module _ (m : List ℕ) (s : Step) (b : List ℕ) where
-  pub step-did : is_refused (gives m (order (Good s) b)).answer ≡ false → Did m s b
+  pub step-did : is_refused (gives m (order (Ok s) b)).answer ≡ false → Did m s b
   unfolding step_of done_of
   step-did h = go (is_fit_crate m) (step_verdict s b) refl refl h
     where
       go : (t : Bool) (v : Verdict) → is_fit_crate m ≡ t → step_verdict s b ≡ v
           → is_refused (cond t (judged_of v m s b) (refused UnfitCrate m b)).out.answer ≡ false → Did m s b
-      go true Fine f e n = record {
+      go true (Ok _) f e n = record {
         fit = crate-facts m f;
         fine = ap is_fine e;
         did = ap (λ (t : Bool). cond t (judged_of (step_verdict s b) m s b) (refused UnfitCrate m b)) f ∙ ap (λ (v : Verdict). judged_of v m s b) e;
       }
-      go true (Refuse q) f e n = absurd (true≢false n)
+      go true (Err q) f e n = absurd (true≢false n)
       go false v f e n = absurd (true≢false n)
 
   -- and its answer is that of what it did
-  pub did-answer : Did m s b → {r : Answer} → (gives m (order (Good s) b)).answer ≡ r → (act_of m s b).out.answer ≡ r
+  pub did-answer : Did m s b → {r : Answer} → (gives m (order (Ok s) b)).answer ≡ r → (act_of m s b).out.answer ≡ r
   did-answer d h = sym (ap (λ (p : Performed). p.out.answer) d.did) ∙ h
 
 -- ---- end, words and cycles
@@ -73,7 +72,7 @@ walk_same : {f to limit : ℕ} {m : List ℕ} {n a k : ℕ} {cs : List Made} {e 
     → Walk f to limit m n a k cs d m''
 walk_same p q w = rw (sym p, sym q) w
 
-module _ (m : List ℕ) (n a f to limit : ℕ) (b : List ℕ) (t : Transfer) (h : (gives m (order (Good (Scan n a f to limit)) b)).answer ≡ Transferred t) where
+module _ (m : List ℕ) (n a f to limit : ℕ) (b : List ℕ) (t : Transfer) (h : (gives m (order (Ok (Scan n a f to limit)) b)).answer ≡ Transferred t) where
   pub scan-did : Did m (Scan n a f to limit) b
   scan-did = step-did m (Scan n a f to limit) b (ap is_refused h)
 
@@ -87,7 +86,7 @@ module _ (m : List ℕ) (n a f to limit : ℕ) (b : List ℕ) (t : Transfer) (h 
       × ((scan_of m n a f to limit).cycles ≡ length cs) × ((scan_of m n a f to limit).words ≡ words_of cs)
   made_by = scan-walks m n a f to limit fields.1
 
-  walked : Walk f to limit m n a 0 made_by.0 t.end (leaves m (order (Good (Scan n a f to limit)) b))
+  walked : Walk f to limit m n a 0 made_by.0 t.end (leaves m (order (Ok (Scan n a f to limit)) b))
   walked = walk_same (ap (λ (p : Transfer). p.end) told) (sym (ap (λ (p : Performed). p.memory) scan-did.did)) made_by.1
 
   count-words : t.words ≡ length (words_of made_by.0)
@@ -97,9 +96,9 @@ module _ (m : List ℕ) (n a f to limit : ℕ) (b : List ℕ) (t : Transfer) (h 
   count-cycles = sym (ap (λ (p : Transfer). p.cycles) told) ∙ made_by.2
 
   finished : t.end ≡ 2 → Everywhere n a to made_by.0 × (to - n + 1 ≤ length made_by.0)
-  finished e = finished-walk f to limit m n a 0 made_by.0 (leaves m (order (Good (Scan n a f to limit)) b)) fields.2 (walk_same e refl walked)
+  finished e = finished-walk f to limit m n a 0 made_by.0 (leaves m (order (Ok (Scan n a f to limit)) b)) fields.2 (walk_same e refl walked)
 
-  scanned : Scanned m n a f to limit b t (leaves m (order (Good (Scan n a f to limit)) b)) (gives m (order (Good (Scan n a f to limit)) b)).buffer
+  scanned : Scanned m n a f to limit b t (leaves m (order (Ok (Scan n a f to limit)) b)) (gives m (order (Ok (Scan n a f to limit)) b)).buffer
   scanned = record {
     commands = made_by.0;
     walk = walked;

@@ -21,8 +21,6 @@ use Rattle.windows.proofs.Locality.{within-alike}
 use Rattle.step.specs.Verdict.{within, within_verdict, step_verdict}
 use Rattle.step.proofs.Fine.{within-bounds, within-fields}
 use Rattle.step.specs.declared.Step.TheVariants.{Within}
-use Rattle.step.specs.declared.Verdict.{Verdict}
-use Rattle.step.specs.declared.Verdict.TheVariants.{Fine, Refuse}
 use Rattle.controller.specs.declared.Answer.{Answer}
 use Rattle.controller.specs.declared.Answer.TheVariants.{Listed}
 use Rattle.controller.specs.Answers.{answer_words}
@@ -31,6 +29,8 @@ use Rattle.controller.specs.Listings.{listing, ListingFinds, ListingDone, Listin
 use Rattle.controller.proofs.StepLaws.{step-done}
 use Rattle.controller.proofs.Sentences.{is_refused}
 use Rattle.controller.proofs.FinishedLaws.{Did, step-did, did-answer}
+use Rattle.std.specs.Prelude.{Ok, Err}
+use Rattle.step.specs.Results.{Verdict}
 
 module _ (m : List ℕ) (n to lo hi : ℕ) (b : List ℕ) (count : ℕ) (h : (gives m (listing n to lo hi b)).answer ≡ Listed count) where
   did : Did m (Within n to lo hi) b
@@ -85,7 +85,7 @@ listing-finds m n to lo hi b count h = (
 )
 
 -- ---- where it is done
-fine-within : (n to lo hi lent : ℕ) → 1 ≤ n → n ≤ to → to ≤ 23 → lo ≤ hi → hi ≤ 16777215 → 16 * (to - n + 1) ≤ lent → within_verdict n to lo hi lent ≡ Fine
+fine-within : (n to lo hi lent : ℕ) → 1 ≤ n → n ≤ to → to ≤ 23 → lo ≤ hi → hi ≤ 16777215 → 16 * (to - n + 1) ≤ lent → within_verdict n to lo hi lent ≡ Ok tt
 unfolding within_verdict
 fine-within n to lo hi lent a b c d e f =
     rw (
@@ -120,8 +120,8 @@ listing-reads m m' n to lo hi b fit fit' e =
     ∙ sym (ap (λ (p : Performed). p.out) (step-done m' (listing n to lo hi b) fit'))
   where
     judged : (v : Verdict) → (judged_of v m (Within n to lo hi) b).out ≡ (judged_of v m' (Within n to lo hi) b).out
-    judged Fine = rw (within-alike m m' n to lo hi e)
-    judged (Refuse q) = refl
+    judged (Ok _) = rw (within-alike m m' n to lo hi e)
+    judged (Err q) = refl
 
 -- ---- covered stations: no command is accepted there
 pub covered-unlisted : CoveredUnlisted

@@ -17,15 +17,15 @@ use Rattle.transfer.proofs.FaultLaws.{accepted-below, repeat-ends-three, stop-en
 use Rattle.step.proofs.Fine.{transfer-one-of, repeat-fields, stop-fields}
 use Rattle.step.specs.declared.Step.{Step}
 use Rattle.step.specs.declared.Step.TheVariants.{Repeat, Stop}
-use Rattle.step.specs.declared.Reading.TheVariants.{Good}
 use Rattle.controller.specs.declared.Answer.TheVariants.{Transferred}
 use Rattle.controller.specs.Steps.{order, Performed, transferred, act_of, gives}
 use Rattle.controller.specs.NotAccepted.{NotAccepted, RepeatNotAccepted, StopNotAccepted}
 use Rattle.controller.proofs.Sentences.{is_refused}
 use Rattle.controller.proofs.FinishedLaws.{Did, step-did, did-answer, transfer_in}
+use Rattle.std.specs.Prelude.{Ok}
 
 -- the step s came to e, of which the laws of a transfer aimed at N, A speak
-module _ (m : List ℕ) (n a f : ℕ) (s : Step) (b : List ℕ) (p : Transfer) (h : (gives m (order (Good s) b)).answer ≡ Transferred p) where
+module _ (m : List ℕ) (n a f : ℕ) (s : Step) (b : List ℕ) (p : Transfer) (h : (gives m (order (Ok s) b)).answer ≡ Transferred p) where
   as-aimed : Did m s b → (e : Ended) → act_of m s b ≡ transferred e b → Aimed m n a f → EndsThree m n a f e → NotAccepted m n a s b p
   as-aimed d e t aim three = (
     λ x. below (three.1 (end ∙ x)),

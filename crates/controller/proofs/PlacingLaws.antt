@@ -13,28 +13,26 @@ use Rattle.step.specs.Verdict.{is_fine}
 use Rattle.step.specs.Modules.{module_verdict}
 use Rattle.step.proofs.Modules.{free-fine, module-fine}
 use Rattle.step.specs.declared.Refusal.{Refusal}
-use Rattle.step.specs.declared.ModuleLine.{ModuleLine}
-use Rattle.step.specs.declared.ModuleLine.TheVariants.{Holds, Bad}
-use Rattle.step.specs.declared.Verdict.{Verdict}
-use Rattle.step.specs.declared.Verdict.TheVariants.{Fine, Refuse}
 use Rattle.controller.specs.Placing.{place_verdict, judged_module_of, place_of}
+use Rattle.std.specs.Prelude.{Ok, Err}
+use Rattle.step.specs.Results.{ModuleLine, Verdict}
 
 -- what `put_module` asks for
-pub module-good : (previous covered : ℕ) (p : Module) (v : Verdict) → v ≡ module_verdict previous covered p → v ≡ Fine → FitModule p
+pub module-good : (previous covered : ℕ) (p : Module) (v : Verdict) → v ≡ module_verdict previous covered p → v ≡ Ok tt → FitModule p
 module-good previous covered p v e h = module-fine previous covered p (ap is_fine (sym e ∙ h))
 
 -- the two ways of a line that holds a module
 module _ (m : List ℕ) (previous : ℕ) (p : Module) (v : Verdict) (e : v ≡ place_verdict m previous p) where
-  pub module-refused : (q : Refusal) → v ≡ Refuse q → place_of m previous (Holds p) ≡ record { verdict = Refuse q; memory = m }
+  pub module-refused : (q : Refusal) → v ≡ Err q → place_of m previous (Ok p) ≡ record { verdict = Err q; memory = m }
   unfolding place_of
   module-refused q h = ap (λ (w : Verdict). judged_module_of w p m) (sym e ∙ h)
 
-  pub module-placed : (m' : List ℕ) → v ≡ Fine → m' ≡ with_module m p → place_of m previous (Holds p) ≡ record { verdict = Fine; memory = m' }
+  pub module-placed : (m' : List ℕ) → v ≡ Ok tt → m' ≡ with_module m p → place_of m previous (Ok p) ≡ record { verdict = Ok tt; memory = m' }
   unfolding place_of
   module-placed m' h g = ap (λ (w : Verdict). judged_module_of w p m) (sym e ∙ h) ∙ rw g
 
   -- a crate with the module in it is fit
-  pub placed-fit : (m' : List ℕ) → v ≡ Fine → m' ≡ with_module m p → FitCrate m → FitCrate m'
+  pub placed-fit : (m' : List ℕ) → v ≡ Ok tt → m' ≡ with_module m p → FitCrate m → FitCrate m'
   placed-fit m' h g f =
       let covered = word m p.n 7 in
       subst FitCrate (sym g) (module-fit m p f (module-good previous covered p v e h) (free-fine previous covered p (ap is_fine (sym e ∙ h))))
@@ -42,9 +40,9 @@ module _ (m : List ℕ) (previous : ℕ) (p : Module) (v : Verdict) (e : v ≡ p
 -- a crate line leaves a fit crate fit, whatever it says and whatever stands in the stations that its module fills
 pub place-fit : (m : List ℕ) (previous : ℕ) (x : ModuleLine) → FitCrate m → FitCrate (place_of m previous x).memory
 unfolding place_of
-place-fit m previous (Bad q) f = f
-place-fit m previous (Holds p) f = go (place_verdict m previous p) refl
+place-fit m previous (Err q) f = f
+place-fit m previous (Ok p) f = go (place_verdict m previous p) refl
   where
     go : (v : Verdict) → v ≡ place_verdict m previous p → FitCrate (judged_module_of v p m).memory
-    go Fine e = placed-fit m previous p Fine e (with_module m p) refl refl f
-    go (Refuse q) e = f
+    go (Ok _) e = placed-fit m previous p (Ok tt) e (with_module m p) refl refl f
+    go (Err q) e = f

@@ -19,14 +19,14 @@ use Rattle.step.specs.declared.Refusal.TheVariants.{UnfitCrate}
 use Rattle.step.specs.declared.Short.{Short}
 use Rattle.step.specs.declared.Short.TheVariants.{ShortScan, ShortRepeat, ShortStop}
 use Rattle.step.specs.declared.Step.TheVariants.{Processor}
-use Rattle.step.specs.declared.Verdict.{Verdict}
-use Rattle.step.specs.declared.Verdict.TheVariants.{Fine, Refuse}
 use Rattle.controller.specs.declared.Answer.TheVariants.{Transferred}
 use Rattle.controller.specs.Steps.{Performed, refused, short_of, act_of, judged_of, done_of, step_of}
 use Rattle.controller.specs.Processor.{at_processor, at_general, ShortGeneral, ShortAbove, ShortHead, ShortLong, ShortUnfit, GeneralOrLong, ShortEither, ShortHolds}
 use Rattle.controller.proofs.StepLaws.{step-done}
 use Rattle.controller.proofs.Sentences.{is_refused, general-words}
 use Rattle.controller.proofs.FinishedLaws.{transfer_in}
+use Rattle.std.specs.Prelude.{Ok, Err}
+use Rattle.step.specs.Results.{Verdict}
 
 -- what is done is the same
 act-general : (m : List ℕ) (t : Short) (b : List ℕ) → act_of m (Processor t) b ≡ act_of m (general_of t) b
@@ -36,8 +36,8 @@ act-general m (ShortStop n a f limit) b = refl
 
 -- with one verdict, one step
 judged-general : (v : Verdict) (m : List ℕ) (t : Short) (b : List ℕ) → judged_of v m (Processor t) b ≡ judged_of v m (general_of t) b
-judged-general Fine m t b = act-general m t b
-judged-general (Refuse q) m t b = refl
+judged-general (Ok _) m t b = act-general m t b
+judged-general (Err q) m t b = refl
 
 alike : (m : List ℕ) (t : Short) (b : List ℕ) → short_verdict t (length b) ≡ step_verdict (general_of t) b → step_of m (at_processor t b) ≡ step_of m (at_general t b)
 unfolding step_of done_of
@@ -68,7 +68,7 @@ short-unfit m t b u = rw u
 pub short-either : ShortEither
 short-either m t b = by-crate (is_fit_crate m) refl
   where
-    by-limit : FitCrate m → head_of t ≡ Fine → GeneralOrLong m t b
+    by-limit : FitCrate m → head_of t ≡ Ok tt → GeneralOrLong m t b
     by-limit f h =
         elim (dec_lt 32 (limit_of t)) [
           | yes lo ↦ elim (dec_lt 512 (limit_of t)) [
@@ -79,8 +79,8 @@ short-either m t b = by-crate (is_fit_crate m) refl
         ]
 
     by-head : FitCrate m → (v : Verdict) → head_of t ≡ v → GeneralOrLong m t b
-    by-head f Fine h = by-limit f h
-    by-head f (Refuse q) h = inl (short-head m t b q h)
+    by-head f (Ok _) h = by-limit f h
+    by-head f (Err q) h = inl (short-head m t b q h)
 
     by-crate : (u : Bool) → is_fit_crate m ≡ u → GeneralOrLong m t b
     by-crate true e = by-head (crate-facts m e) (head_of t) refl
@@ -105,11 +105,11 @@ none_told : (b : List ℕ) (o : Performed) → is_refused o.out.answer ≡ true 
 none_told b o r e = (λ p h. absurd (false≢true (sym (ap is_refused h) ∙ r)), e)
 
 judged-holds : (v : Verdict) (m : List ℕ) (t : Short) (b : List ℕ) → short_verdict t (length b) ≡ v → Holds b (judged_of v m (Processor t) b)
-judged-holds Fine m t b e =
+judged-holds (Ok tt) m t b e =
     let fine = ap is_fine e in
     let few : length (short_of m t).words ≤ 32 = omega (arith, (general-words m t b (short-fine t b fine)).0, short-few t (length b) fine) in
     (λ p h. omega (arith, few, ap (λ (x : Transfer). x.words) (ap transfer_in h)), stays (short_of m t).words b 32 few)
-judged-holds (Refuse q) m t b e = none_told b (refused q m b) refl refl
+judged-holds (Err q) m t b e = none_told b (refused q m b) refl refl
 
 pub short-holds : ShortHolds
 unfolding step_of done_of

@@ -25,24 +25,24 @@ use Rattle.transfer.specs.Stop.{stop_next, stop_from}
 use Rattle.step.specs.Verdict.{command_verdict, front_verdict, scan_verdict, repeat_verdict, stop_verdict, short_repeat_verdict, short_stop_verdict}
 use Rattle.step.specs.declared.Step.TheVariants.{Command, Front, Z, Scan, Repeat, Stop, Processor}
 use Rattle.step.specs.declared.Short.TheVariants.{ShortRepeat, ShortStop}
-use Rattle.step.specs.declared.Reading.TheVariants.{Good}
 use Rattle.controller.specs.declared.Answer.TheVariants.{Replied, Transferred}
 use Rattle.controller.specs.Steps.{Order, order, Out, leaves, gives, touches, step_of, done_of}
 use Rattle.controller.specs.Regrouping.{beyond}
 use Rattle.controller.proofs.StepLaws.{crate-regroup}
+use Rattle.std.specs.Prelude.{Ok}
 
 -- an event at station 3, a scan from 3 to 5 that is refused because no buffer is lent, an event at station 5, and Z
 abbrev pub at3 : Order
-at3 = order (Good (Front 3 0 1)) []
+at3 = order (Ok (Front 3 0 1)) []
 
 abbrev pub unlent : Order
-unlent = order (Good (Scan 3 0 0 5 1)) []
+unlent = order (Ok (Scan 3 0 0 5 1)) []
 
 abbrev pub at5 : Order
-at5 = order (Good (Front 5 0 1)) []
+at5 = order (Ok (Front 5 0 1)) []
 
 abbrev pub all : Order
-all = order (Good Z) []
+all = order (Ok Z) []
 
 touches-3 : (k : ℕ) → touches at3 k ≡ eqb 3 k
 unfolding front_verdict
@@ -120,7 +120,7 @@ no-sample p r =
     let up : get_or p 0 0 < get_or p 1 0 = r.order 0 1 (omega arith) (omega arith) (3, omega arith, omega arith, touches-all 3, touches-3 3) in
     let e : get_or p 0 0 ≡ 0 = omega (arith, r.places 1 (omega arith)) in
     let s : all ≡ at3 = rw e at (step-at touches beyond (at3 ∷ all ∷ []) (all ∷ at3 ∷ []) p r 0 (omega arith)) in
-    let t : Good Z ≡ Good (Front 3 0 1) = ap (λ (o : Order). o.reading) s in
+    let t : Ok Z ≡ Ok (Front 3 0 1) = ap (λ (o : Order). o.reading) s in
     let z : ◌≡◌ {A = ℕ} 0 1 = cc in
     omega arith
 
@@ -133,16 +133,16 @@ module _ (between : Order) (everywhere : (k : ℕ) → touches between k ≡ tru
       let on : get_or p 1 0 < get_or p 2 0 = r.order 1 2 (omega arith) (omega arith) (3, omega arith, omega arith, everywhere 3, touches-3 3) in
       let e : get_or p 0 0 ≡ 0 = omega (arith, r.places 2 (omega arith)) in
       let s : at5 ≡ at3 = rw e at (step-at touches beyond (at3 ∷ between ∷ at5 ∷ []) (at5 ∷ between ∷ at3 ∷ []) p r 0 (omega arith)) in
-      let t : Good (Front 5 0 1) ≡ Good (Front 3 0 1) = ap (λ (o : Order). o.reading) s in
+      let t : Ok (Front 5 0 1) ≡ Ok (Front 3 0 1) = ap (λ (o : Order). o.reading) s in
       let z : ◌≡◌ {A = ℕ} 5 3 = cc in
       omega arith
 
 -- one to N26, and one to N24 too, whatever the register holds
 abbrev pub to_all : Order
-to_all = order (Good (Command 26 0 0 0)) []
+to_all = order (Ok (Command 26 0 0 0)) []
 
 abbrev pub to_register : Order
-to_register = order (Good (Command 24 0 0 0)) []
+to_register = order (Ok (Command 24 0 0 0)) []
 
 pub many-sample : (p : List ℕ) → Rearranged touches beyond (at3 ∷ to_all ∷ at5 ∷ []) (at5 ∷ to_all ∷ at3 ∷ []) p → ⊥
 unfolding command_verdict
@@ -193,13 +193,13 @@ module _ (x y z : Order) (no-zy : Common touches z y → ⊥) (no-zx : Common to
 
 -- ---- a command moves past a Repeat past a Stop
 abbrev pub command3 : Order
-command3 = order (Good (Command 3 0 0 0)) []
+command3 = order (Ok (Command 3 0 0 0)) []
 
 abbrev pub repeat5 : Order
-repeat5 = order (Good (Repeat 5 0 0 1 1)) (0 ∷ [])
+repeat5 = order (Ok (Repeat 5 0 0 1 1)) (0 ∷ [])
 
 abbrev pub stop7 : Order
-stop7 = order (Good (Stop 7 0 0 1)) (0 ∷ [])
+stop7 = order (Ok (Stop 7 0 0 1)) (0 ∷ [])
 
 touches-command : (k : ℕ) → touches command3 k ≡ eqb 3 k
 unfolding command_verdict
@@ -255,13 +255,13 @@ three-regrouped = (turned-alike around5 (crate-facts around5 around5-fit)).1 thr
 -- ---- steps of both entries: a Stop at the general entry with a limit above 32; the same at the trigger processor's entry, which is refused with 13 and
 -- touches no station; and a Repeat there
 abbrev pub general3 : Order
-general3 = order (Good (Stop 3 0 0 33)) (replicate 33 0)
+general3 = order (Ok (Stop 3 0 0 33)) (replicate 33 0)
 
 abbrev pub long3 : Order
-long3 = order (Good (Processor (ShortStop 3 0 0 33))) (replicate 33 0)
+long3 = order (Ok (Processor (ShortStop 3 0 0 33))) (replicate 33 0)
 
 abbrev pub short5 : Order
-short5 = order (Good (Processor (ShortRepeat 5 0 0 32 1))) (replicate 32 0)
+short5 = order (Ok (Processor (ShortRepeat 5 0 0 32 1))) (replicate 32 0)
 
 touches-general : (k : ℕ) → touches general3 k ≡ eqb 3 k
 unfolding stop_verdict

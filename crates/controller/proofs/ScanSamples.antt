@@ -17,10 +17,10 @@ use Rattle.transfer.specs.Scan.{scanning, scan_from, scan_cycle, scan_next}
 use Rattle.transfer.specs.Held.{held_in, held_from}
 use Rattle.step.specs.Verdict.{command_verdict, scan_verdict, put_verdict, put_lent_verdict}
 use Rattle.step.specs.declared.Step.TheVariants.{Command}
-use Rattle.step.specs.declared.Reading.TheVariants.{Good}
 use Rattle.controller.specs.declared.Answer.TheVariants.{Transferred, Wrote}
 use Rattle.controller.specs.Steps.{order, leaves, gives, step_of, done_of}
 use Rattle.controller.specs.Scans.{scan, put, put_lent}
+use Rattle.std.specs.Prelude.{Ok}
 
 -- A scaler with 11, 0 and 13 in station 2, a buffer memory with 21 and 22 in 4, an empty one in 5, an output register of sixteen with 99 at A15 in 6
 -- (scenario 69).
@@ -34,7 +34,7 @@ crate =
 
 -- the same after an F2 at the buffer memory, whose head is 1 now
 abbrev pub read_once : List ℕ
-read_once = leaves crate (order (Good (Command 4 0 2 0)) [])
+read_once = leaves crate (order (Ok (Command 4 0 2 0)) [])
 
 -- a buffer of 512 words, 7 each
 abbrev pub sevens : List ℕ

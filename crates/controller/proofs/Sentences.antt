@@ -26,12 +26,10 @@ use Rattle.step.specs.declared.Short.{Short}
 use Rattle.step.specs.declared.Short.TheVariants.{ShortScan, ShortRepeat, ShortStop}
 use Rattle.step.specs.Entries.{general_of, limit_of}
 use Rattle.step.proofs.Entries.{short-fine}
-use Rattle.step.specs.declared.Reading.{Reading}
-use Rattle.step.specs.declared.Reading.TheVariants.{Good, Bad}
-use Rattle.step.specs.declared.Verdict.{Verdict}
-use Rattle.step.specs.declared.Verdict.TheVariants.{Fine, Refuse}
 use Rattle.controller.specs.declared.Answer.{Answer}
 use Rattle.controller.specs.declared.Answer.TheVariants.{Replied, Taken, Done, Looked, Transferred, Wrote, Listed, Refused}
+use Rattle.std.specs.Prelude.{Ok, Err}
+use Rattle.step.specs.Results.{Reading, Verdict}
 
 -- every step leaves the crate fit
 pub step-fit : (m : List ℕ) (o : Order) → FitCrate m → FitCrate (leaves m o)
@@ -65,28 +63,28 @@ act-answers m (Within n to lo hi) b = refl
 
 judged-same : (v : Verdict) (m : List ℕ) (s : Step) (b : List ℕ) → is_refused (judged_of v m s b).out.answer ≡ true
     → ((judged_of v m s b).memory ≡ m) × ((judged_of v m s b).out.buffer ≡ b)
-judged-same Fine m s b e = absurd (false≢true (sym (act-answers m s b) ∙ e))
-judged-same (Refuse q) m s b e = (refl, refl)
+judged-same (Ok _) m s b e = absurd (false≢true (sym (act-answers m s b) ∙ e))
+judged-same (Err q) m s b e = (refl, refl)
 
 done-same : (m : List ℕ) (r : Reading) (b : List ℕ) → is_refused (reading_done m r b).out.answer ≡ true
     → ((reading_done m r b).memory ≡ m) × ((reading_done m r b).out.buffer ≡ b)
-done-same m (Good s) b e = judged-same (step_verdict s b) m s b e
-done-same m (Bad q) b e = (refl, refl)
+done-same m (Ok s) b e = judged-same (step_verdict s b) m s b e
+done-same m (Err q) b e = (refl, refl)
 
 judged-by : (v : Verdict) (m m' : List ℕ) (s : Step) (b : List ℕ) → is_refused (judged_of v m s b).out.answer ≡ true
     → (judged_of v m' s b).out ≡ (judged_of v m s b).out
-judged-by Fine m m' s b e = absurd (false≢true (sym (act-answers m s b) ∙ e))
-judged-by (Refuse q) m m' s b e = refl
+judged-by (Ok _) m m' s b e = absurd (false≢true (sym (act-answers m s b) ∙ e))
+judged-by (Err q) m m' s b e = refl
 
 done-by : (m m' : List ℕ) (r : Reading) (b : List ℕ) → is_refused (reading_done m r b).out.answer ≡ true
     → (reading_done m' r b).out ≡ (reading_done m r b).out
-done-by m m' (Good s) b e = judged-by (step_verdict s b) m m' s b e
-done-by m m' (Bad q) b e = refl
+done-by m m' (Ok s) b e = judged-by (step_verdict s b) m m' s b e
+done-by m m' (Err q) b e = refl
 
 -- a reading whose verdict is a refusal is refused so
-pub refused-reading : (m : List ℕ) (r : Reading) (b : List ℕ) (q : Refusal) → verdict_of r b ≡ Refuse q → reading_done m r b ≡ refused q m b
-refused-reading m (Good s) b q e = ap (λ (v : Verdict). judged_of v m s b) e
-refused-reading m (Bad p) b q e = let h : p ≡ q = cc in ap (λ (x : Refusal). refused x m b) h
+pub refused-reading : (m : List ℕ) (r : Reading) (b : List ℕ) (q : Refusal) → verdict_of r b ≡ Err q → reading_done m r b ≡ refused q m b
+refused-reading m (Ok s) b q e = ap (λ (v : Verdict). judged_of v m s b) e
+refused-reading m (Err p) b q e = let h : p ≡ q = cc in ap (λ (x : Refusal). refused x m b) h
 
 -- a refusal changes nothing, in the crate or in the buffer
 pub refused-same : (m : List ℕ) (o : Order) (q : Refusal) → (gives m o).answer ≡ Refused q → (leaves m o ≡ m) × ((gives m o).buffer ≡ o.buffer)
@@ -140,12 +138,12 @@ act-long m (PutLent n a to limit) b e = refl
 act-long m (Within n to lo hi) b e = let h = within-fields n to lo hi (length b) e in within-long m n to lo hi b h.6
 
 judged-long : (v : Verdict) (m : List ℕ) (s : Step) (b : List ℕ) → step_verdict s b ≡ v → length (judged_of v m s b).out.buffer ≡ length b
-judged-long Fine m s b e = act-long m s b (ap is_fine e)
-judged-long (Refuse q) m s b e = refl
+judged-long (Ok _) m s b e = act-long m s b (ap is_fine e)
+judged-long (Err q) m s b e = refl
 
 done-long : (m : List ℕ) (r : Reading) (b : List ℕ) → length (reading_done m r b).out.buffer ≡ length b
-done-long m (Good s) b = judged-long (step_verdict s b) m s b refl
-done-long m (Bad q) b = refl
+done-long m (Ok s) b = judged-long (step_verdict s b) m s b refl
+done-long m (Err q) b = refl
 
 pub step-long : (m : List ℕ) (o : Order) → length (gives m o).buffer ≡ length o.buffer
 unfolding step_of done_of

@@ -37,13 +37,11 @@ use Rattle.step.specs.declared.Short.{Short}
 use Rattle.step.specs.declared.Short.TheVariants.{ShortScan, ShortRepeat, ShortStop}
 use Rattle.step.specs.Entries.{general_of}
 use Rattle.step.proofs.Entries.{short-fine}
-use Rattle.step.specs.declared.Reading.{Reading}
-use Rattle.step.specs.declared.Reading.TheVariants.{Good, Bad}
-use Rattle.step.specs.declared.Verdict.{Verdict}
-use Rattle.step.specs.declared.Verdict.TheVariants.{Fine, Refuse}
 use Rattle.controller.specs.declared.Answer.TheVariants.{Replied, Taken, Transferred, Wrote, Listed, Refused}
 use Rattle.controller.specs.Steps.{Order, Out, Performed, refused, act_of, judged_of, reading_done, done_of, step_of, leaves, gives, touches}
 use Rattle.controller.specs.Regrouping.{beyond, Regrouping}
+use Rattle.std.specs.Prelude.{Ok, Err}
+use Rattle.step.specs.Results.{Reading, Verdict}
 
 -- what a transfer tells, with the buffer that it was lent
 abbrev told_out : List ℕ → Told → Out
@@ -129,12 +127,12 @@ local-done o = go o.reading o.buffer
 
     judged : (s : Step) (b : List ℕ) (v : Verdict) → step_verdict s b ≡ v
         → Local FitCrate (λ (k : ℕ). is_fine v && reach s k) (λ (m : List ℕ). (judged_of v m s b).memory) (λ (m : List ℕ). (judged_of v m s b).out)
-    judged s b Fine e = good s b (ap is_fine e)
-    judged s b (Refuse q) e = none b q
+    judged s b (Ok _) e = good s b (ap is_fine e)
+    judged s b (Err q) e = none b q
 
     go : (r : Reading) (b : List ℕ) → Local FitCrate (λ (k : ℕ). touches_of r b k) (λ (m : List ℕ). (reading_done m r b).memory) (λ (m : List ℕ). (reading_done m r b).out)
-    go (Good s) b = judged s b (step_verdict s b) refl
-    go (Bad q) b = none b q
+    go (Ok s) b = judged s b (step_verdict s b) refl
+    go (Err q) b = none b q
 
 -- from a fit crate 9 does not come
 pub step-done : (m : List ℕ) (o : Order) → FitCrate m → step_of m o ≡ done_of m o

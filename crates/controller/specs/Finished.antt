@@ -1,11 +1,10 @@
 -- What the answer of a step tells, from any memory and with any buffer: where a scan has been, and what X, Q and R may be.
-use Rattle.std.specs.Prelude.{ℕ, ◌+◌, ◌-◌, ◌≤◌, ◌<◌, ◌^◌, ◌≡◌, List, ◌++◌, length, drop}
+use Rattle.std.specs.Prelude.{ℕ, ◌+◌, ◌-◌, ◌≤◌, ◌<◌, ◌^◌, ◌≡◌, List, ◌++◌, length, drop, Ok}
 use Rattle.station.specs.declared.Reply.{Reply}
 use Rattle.transfer.specs.Walk.{Made, Walk, words_of, Everywhere}
 use Rattle.transfer.specs.declared.Transfer.{Transfer}
 use Rattle.step.specs.declared.Step.{Step}
 use Rattle.step.specs.declared.Step.TheVariants.{Scan}
-use Rattle.step.specs.declared.Reading.TheVariants.{Good}
 use Rattle.controller.specs.Steps.{order, leaves, gives}
 use Rattle.controller.specs.declared.Answer.{Answer}
 use Rattle.controller.specs.declared.Answer.TheVariants.{Replied, Transferred}
@@ -33,12 +32,12 @@ ScanTold m n a f to limit b r m' b' = (t : Transfer) → r ≡ Transferred t →
 abbrev pub FinishedScan : Type 0
 FinishedScan = (m : List ℕ) (n a f to limit : ℕ) (b : List ℕ)
     → ScanTold m n a f to limit b
-    (gives m (order (Good (Scan n a f to limit)) b)).answer
-    (leaves m (order (Good (Scan n a f to limit)) b))
-    (gives m (order (Good (Scan n a f to limit)) b)).buffer
+    (gives m (order (Ok (Scan n a f to limit)) b)).answer
+    (leaves m (order (Ok (Scan n a f to limit)) b))
+    (gives m (order (Ok (Scan n a f to limit)) b)).buffer
 
 -- a step that answers X, Q and R: X and Q are 0 or 1, R has 24 bits; X = 0 leaves Q and R 0 and changes nothing
 abbrev pub RepliesAreWords : Type 0
-RepliesAreWords = (m : List ℕ) (s : Step) (b : List ℕ) (p : Reply) → (gives m (order (Good s) b)).answer ≡ Replied p
+RepliesAreWords = (m : List ℕ) (s : Step) (b : List ℕ) (p : Reply) → (gives m (order (Ok s) b)).answer ≡ Replied p
     → (p.x < 2) × (p.q < 2) × (p.r < 2 ^ 24)
-    × (p.x ≡ 0 → (p.q ≡ 0) × (p.r ≡ 0) × (leaves m (order (Good s) b) ≡ m))
+    × (p.x ≡ 0 → (p.q ≡ 0) × (p.r ≡ 0) × (leaves m (order (Ok s) b) ≡ m))

@@ -1,9 +1,8 @@
 -- What a front event answers (RULES 3.18, 3.19): said of a step as it is run, from any memory and with any buffer.
-use Rattle.std.specs.Prelude.{ℕ, ◌≤◌, ◌≡◌, List}
+use Rattle.std.specs.Prelude.{ℕ, ◌≤◌, ◌≡◌, List, Ok}
 use Rattle.blocks.specs.Blocks.{block_of, inhibit_of}
 use Rattle.station.specs.Digit.{Takes, Loses, Raised, Exactly}
 use Rattle.step.specs.declared.Step.TheVariants.{Front}
-use Rattle.step.specs.declared.Reading.TheVariants.{Good}
 use Rattle.controller.specs.declared.Answer.TheVariants.{Taken}
 use Rattle.controller.specs.Steps.{order, gives, leaves}
 
@@ -20,5 +19,5 @@ Told m m' n a d =
 -- EVERY FRONT EVENT THAT IS NOT REFUSED
 abbrev pub FrontTold : Type 0
 FrontTold = (m : List ℕ) (n a v d : ℕ) (b : List ℕ)
-    → (gives m (order (Good (Front n a v)) b)).answer ≡ Taken d
-    → Told m (leaves m (order (Good (Front n a v)) b)) n a d
+    → (gives m (order (Ok (Front n a v)) b)).answer ≡ Taken d
+    → Told m (leaves m (order (Ok (Front n a v)) b)) n a d

@@ -1,18 +1,17 @@
 -- Registers inside a window (RULES 4.24 to 4.26, 6.29): said of a step as it is run, from any memory and with any buffer.
-use Rattle.std.specs.Prelude.{ℕ, ◌+◌, ◌-◌, ◌*◌, ◌/◌, ◌%◌, ◌≤◌, ◌≡◌, true, List, length, take, drop}
+use Rattle.std.specs.Prelude.{ℕ, ◌+◌, ◌-◌, ◌*◌, ◌/◌, ◌%◌, ◌≤◌, ◌≡◌, true, List, length, take, drop, Ok}
 use Rattle.blocks.specs.Blocks.{word, block_of}
 use Rattle.kinds.specs.Cases.{is_one_of}
 use Rattle.dataway.specs.Crate.{FitCrate}
 use Rattle.windows.specs.Within.{within_of, Ascending}
 use Rattle.windows.specs.Found.{Found}
 use Rattle.step.specs.declared.Step.TheVariants.{Within}
-use Rattle.step.specs.declared.Reading.TheVariants.{Good}
 use Rattle.controller.specs.declared.Answer.TheVariants.{Listed}
 use Rattle.controller.specs.Steps.{Order, order, listed, step_of, leaves, gives}
 
 -- a listing of stations N to `to` with the window from lo to hi, lent the buffer b
 abbrev pub listing : (n to lo hi : ℕ) (b : List ℕ) → Order
-listing n to lo hi b = order (Good (Within n to lo hi)) b
+listing n to lo hi b = order (Ok (Within n to lo hi)) b
 
 -- the first `count` words of the buffer b' are the registers found, where the buffer was b
 pub record Finds (m : List ℕ) (n to lo hi : ℕ) (b b' : List ℕ) (count : ℕ) : Type 0 where

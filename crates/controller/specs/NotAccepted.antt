@@ -1,10 +1,9 @@
 -- Where a Repeat and a Stop end 3 (RULES 4.22): said of a step as it is run, from any memory and with any buffer.
-use Rattle.std.specs.Prelude.{ℕ, ◌≤◌, ◌≡◌, List}
+use Rattle.std.specs.Prelude.{ℕ, ◌≤◌, ◌≡◌, List, Ok}
 use Rattle.transfer.specs.Faults.{registers}
 use Rattle.transfer.specs.declared.Transfer.{Transfer}
 use Rattle.step.specs.declared.Step.{Step}
 use Rattle.step.specs.declared.Step.TheVariants.{Repeat, Stop}
-use Rattle.step.specs.declared.Reading.TheVariants.{Good}
 use Rattle.controller.specs.declared.Answer.TheVariants.{Transferred}
 use Rattle.controller.specs.Steps.{order, performed, step_of, gives}
 
@@ -13,16 +12,16 @@ use Rattle.controller.specs.Steps.{order, performed, step_of, gives}
 abbrev pub NotAccepted : List ℕ → (n a : ℕ) → Step → List ℕ → Transfer → Type 0
 NotAccepted m n a s b p =
     (p.end ≡ 3 → registers m n ≤ a)
-    × (registers m n ≤ a → step_of m (order (Good s) b) ≡ performed m (Transferred (record { end = 3; words = 0; cycles = 1 })) b)
+    × (registers m n ≤ a → step_of m (order (Ok s) b) ≡ performed m (Transferred (record { end = 3; words = 0; cycles = 1 })) b)
 
 -- EVERY REPEAT THAT IS NOT REFUSED
 abbrev pub RepeatNotAccepted : Type 0
 RepeatNotAccepted = (m : List ℕ) (n a f limit tries : ℕ) (b : List ℕ) (p : Transfer)
-    → (gives m (order (Good (Repeat n a f limit tries)) b)).answer ≡ Transferred p
+    → (gives m (order (Ok (Repeat n a f limit tries)) b)).answer ≡ Transferred p
     → NotAccepted m n a (Repeat n a f limit tries) b p
 
 -- AND EVERY STOP
 abbrev pub StopNotAccepted : Type 0
 StopNotAccepted = (m : List ℕ) (n a f limit : ℕ) (b : List ℕ) (p : Transfer)
-    → (gives m (order (Good (Stop n a f limit)) b)).answer ≡ Transferred p
+    → (gives m (order (Ok (Stop n a f limit)) b)).answer ≡ Transferred p
     → NotAccepted m n a (Stop n a f limit) b p

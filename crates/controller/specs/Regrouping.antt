@@ -1,14 +1,13 @@
 -- Demand 3 (RULES 5.9 to 5.12), of two whole lists.
-use Rattle.std.specs.Prelude.{ℕ, List, []}
+use Rattle.std.specs.Prelude.{ℕ, List, [], Err}
 use Rattle.regroup.specs.Lists.{Rearranged, Alike}
 use Rattle.dataway.specs.Crate.{FitCrate}
 use Rattle.step.specs.declared.Refusal.TheVariants.{Garbled}
-use Rattle.step.specs.declared.Reading.TheVariants.{Bad}
 use Rattle.controller.specs.Steps.{Order, order, leaves, gives, touches}
 
 -- (what stands past a list's end, and is never looked at)
 abbrev pub beyond : Order
-beyond = order (Bad Garbled) []
+beyond = order (Err Garbled) []
 
 -- From every fit crate m, for every list xs of steps, each with its own buffer, and every ys that has each of them exactly once, with the same fields and
 -- buffer contents handed in, and keeps the order of any two that touch a station in common: the two lists leave the same 768 words, and step k of ys gives

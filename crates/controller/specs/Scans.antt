@@ -1,22 +1,21 @@
 -- How long a scan or a put can take, and what a scan reads (RULES 4.18 to 4.20): said of a step as it is run, from any memory and with any buffer. Such a
 -- step is refused where `to` is below N, so to - N + 1 is the number of its stations.
-use Rattle.std.specs.Prelude.{ℕ, ◌+◌, ◌-◌, ◌≤◌, ◌≡◌, List, length, take}
+use Rattle.std.specs.Prelude.{ℕ, ◌+◌, ◌-◌, ◌≤◌, ◌≡◌, List, length, take, Ok}
 use Rattle.transfer.specs.Held.{held_from}
 use Rattle.transfer.specs.declared.Transfer.{Transfer}
 use Rattle.step.specs.declared.Step.TheVariants.{Scan, Put, PutLent}
-use Rattle.step.specs.declared.Reading.TheVariants.{Good}
 use Rattle.controller.specs.declared.Answer.TheVariants.{Transferred, Wrote}
 use Rattle.controller.specs.Steps.{Order, order, leaves, gives}
 
 -- a scan, a put of one word and a put of lent words, each lent the buffer b
 abbrev pub scan : (n a f to limit : ℕ) (b : List ℕ) → Order
-scan n a f to limit b = order (Good (Scan n a f to limit)) b
+scan n a f to limit b = order (Ok (Scan n a f to limit)) b
 
 abbrev pub put : (n a to limit w : ℕ) (b : List ℕ) → Order
-put n a to limit w b = order (Good (Put n a to limit w)) b
+put n a to limit w b = order (Ok (Put n a to limit w)) b
 
 abbrev pub put_lent : (n a to limit : ℕ) (b : List ℕ) → Order
-put_lent n a to limit b = order (Good (PutLent n a to limit)) b
+put_lent n a to limit b = order (Ok (PutLent n a to limit)) b
 
 -- at most a cycle for each word, and one for each station from N to `to`
 abbrev pub InTime : (n to : ℕ) → Transfer → Type 0

@@ -1,6 +1,6 @@
 -- One step: the memory that it leaves, its answer, and its buffer afterwards. First 9, then 1, then the fields from left to right, then 8 (and
 -- in a put of lent words 5); a refusal changes nothing.
-use Rattle.std.specs.Prelude.{ℕ, Bool, cond, List, length, take, replicate}
+use Rattle.std.specs.Prelude.{ℕ, Bool, cond, List, length, take, replicate, Ok, Err}
 use Rattle.dataway.specs.Crate.{is_fit_crate}
 use Rattle.dataway.specs.Stations.{taken_of, after_front}
 use Rattle.dataway.specs.Addressed.{sent_of}
@@ -20,12 +20,9 @@ use Rattle.step.specs.declared.Step.{Step}
 use Rattle.step.specs.declared.Step.TheVariants.{Command, Front, Z, C, Inhibit, LookAtMe, Scan, Repeat, Stop, Put, PutLent, Processor, Within}
 use Rattle.step.specs.declared.Short.{Short}
 use Rattle.step.specs.declared.Short.TheVariants.{ShortScan, ShortRepeat, ShortStop}
-use Rattle.step.specs.declared.Reading.{Reading}
-use Rattle.step.specs.declared.Reading.TheVariants.{Good, Bad}
-use Rattle.step.specs.declared.Verdict.{Verdict}
-use Rattle.step.specs.declared.Verdict.TheVariants.{Fine, Refuse}
 use Rattle.controller.specs.declared.Answer.{Answer}
 use Rattle.controller.specs.declared.Answer.TheVariants.{Replied, Taken, Done, Looked, Transferred, Wrote, Listed, Refused}
+use Rattle.step.specs.Results.{Reading, Verdict}
 
 -- a step of a list: its reading, and the words of the buffer that it is handed
 pub record Order : Type 0 where
@@ -88,13 +85,13 @@ act_of m (Within n to lo hi) b = listed (within_of m n to lo hi) m b
 
 -- a step with its verdict
 abbrev pub judged_of : Verdict → List ℕ → Step → List ℕ → Performed
-judged_of Fine m s b = act_of m s b
-judged_of (Refuse q) m s b = refused q m b
+judged_of (Ok _) m s b = act_of m s b
+judged_of (Err q) m s b = refused q m b
 
 -- a reading: 1 where it is no step, else the verdict on its fields and its buffer, else what the step does
 abbrev pub reading_done : List ℕ → Reading → List ℕ → Performed
-reading_done m (Good s) b = judged_of (step_verdict s b) m s b
-reading_done m (Bad q) b = refused q m b
+reading_done m (Ok s) b = judged_of (step_verdict s b) m s b
+reading_done m (Err q) b = refused q m b
 
 -- a step from a fit crate
 unfoldable pub done_of : List ℕ → Order → Performed

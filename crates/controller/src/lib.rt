@@ -1,11 +1,10 @@
 // The crate controller: one step, judged and then done on a fit crate.
 #![tactic(auto)]
 
-ghost use Rattle.std.specs.Prelude.{◌≡◌, true, length};
+ghost use Rattle.std.specs.Prelude.{◌≡◌, true, length, Ok};
 ghost use Rattle.dataway.specs.Crate.{FitCrate};
 ghost use Rattle.transfer.specs.Cycle.{transfer_of, buffer_after};
 ghost use Rattle.step.specs.Verdict.{step_verdict, short_verdict, is_fine};
-ghost use Rattle.step.specs.declared.Reading.{Reading};
 ghost use Rattle.controller.specs.Steps.{order, performed, short_of, act_of, done_of};
 
 pub mod placing;
@@ -13,7 +12,7 @@ pub mod placing;
 use dataway::lam::LamReading;
 use dataway::{control, lam};
 use station::Reply;
-use step::{Reading, Refusal, Short, Step, Verdict};
+use step::{Refusal, Short, Step};
 use transfer::Transfer;
 
 // What a step answers.
@@ -39,8 +38,8 @@ pub enum Answer {
 
 // Does a step whose fields and buffer are good.
 fn act(memory: &mut [u32], step: Step, buffer: &mut [u32]) -> Answer
-    requires fact_1 { FitCrate memory.old }
-    requires fact_2 { is_fine (step_verdict step buffer.old) ≡ true }
+    requires fit_crate { FitCrate memory.old }
+    requires judged { is_fine (step_verdict step buffer.old) ≡ true }
     ensures { act_of memory.old step buffer.old ≡ performed memory.new result buffer.new }
 {
     match step {
@@ -87,11 +86,11 @@ fn act(memory: &mut [u32], step: Step, buffer: &mut [u32]) -> Answer
 
 // Does a transfer at the trigger processor's entry whose fields and buffer are good: what the general entry does.
 fn act_short(memory: &mut [u32], short: Short, buffer: &mut [u32]) -> Transfer
-    requires fact_1 { FitCrate memory.old }
-    requires fact_2 { is_fine (short_verdict short (length buffer.old)) ≡ true }
-    ensures value { result ≡ transfer_of (short_of memory.old short) }
-    ensures memory_after { memory.new ≡ (short_of memory.old short).memory }
-    ensures buffer_after { buffer.new ≡ buffer_after (short_of memory.old short) buffer.old }
+    requires fit_crate { FitCrate memory.old }
+    requires judged { is_fine (short_verdict short (length buffer.old)) ≡ true }
+    ensures answer { result ≡ transfer_of (short_of memory.old short) }
+    ensures memory { memory.new ≡ (short_of memory.old short).memory }
+    ensures buffer { buffer.new ≡ buffer_after (short_of memory.old short) buffer.old }
 {
     match short {
         Short::ShortScan { n, a, f, to, limit } => {
@@ -111,24 +110,23 @@ fn act_short(memory: &mut [u32], short: Short, buffer: &mut [u32]) -> Transfer
 // One step on a fit crate: refused, or done.
 pub fn perform_step(memory: &mut [u32], step: Step, buffer: &mut [u32]) -> Answer
     requires { FitCrate memory.old }
-    ensures buffer_value { done_of memory.old (order (Reading.Good step) buffer.old) ≡ performed memory.new result buffer.new }
+    ensures done { done_of memory.old (order (Ok step) buffer.old) ≡ performed memory.new result buffer.new }
     ensures fit { FitCrate memory.new }
 {
-    let verdict = step::judge(step, buffer);
-    match verdict {
-        Verdict::Refuse(q) => Answer::Refused(q),
-        Verdict::Fine => act(memory, step, buffer),
+    match step::judge(step, buffer) {
+        Ok(()) => act(memory, step, buffer),
+        Err(q) => Answer::Refused(q),
     }
 }
 
 // One reading on a fit crate: a line that is no step is refused as it says.
-pub fn perform(memory: &mut [u32], reading: Reading, buffer: &mut [u32]) -> Answer
+pub fn perform(memory: &mut [u32], reading: Result<Step, Refusal>, buffer: &mut [u32]) -> Answer
     requires { FitCrate memory.old }
-    ensures buffer_value { done_of memory.old (order reading buffer.old) ≡ performed memory.new result buffer.new }
+    ensures done { done_of memory.old (order reading buffer.old) ≡ performed memory.new result buffer.new }
     ensures fit { FitCrate memory.new }
 {
     match reading {
-        Reading::Good(step) => perform_step(memory, step, buffer),
-        Reading::Bad(q) => Answer::Refused(q),
+        Ok(step) => perform_step(memory, step, buffer),
+        Err(q) => Answer::Refused(q),
     }
 }

@@ -6,7 +6,6 @@ use mathlib.Core.Path.{◌≡◌, refl, sym, ap, ◌∙◌}
 use mathlib.Core.List.{List, [], ◌∷◌}
 use mathlib.Core.Bool.{Bool, true, false, cond}
 use native.Mathlib.Omega.{arith}
-use native.Mathlib.Numerals.{add-one}
 use borrow.Author.Tests.{leb-true, le-leb, eq-eqb, ne_eqb}
 use lib.Dec.{leb}
 use lib.ListN.{length}
@@ -28,35 +27,34 @@ use Rattle.dataway.specs.Addressed.{Commanded, is_addressed, silent, joined, joi
 use Rattle.dataway.specs.Addressed.{common_of, internal_of, sent_of}
 use Rattle.dataway.proofs.CrateLaws.{fit-snr}
 use Rattle.dataway.proofs.StationLaws.{command-fit}
-use Rattle.dataway.proofs.ControlLaws.{each-fit, each-later, z-fit, c-fit, i-fit}
+use Rattle.dataway.proofs.ControlLaws.{each-fit, each-later, each_more, z-fit, c-fit, i-fit}
 
 -- ---- many stations
 module _ (pattern a f w : ℕ) where
   -- no station yet
-  pub replies-none : (m : List ℕ) → silent ≡ replies_to pattern a f w 0 m
+  pub replies-none : (m : List ℕ) → silent ≡ replies_to pattern a f w (1 - 1) m
   unfolding replies_to
   replies-none m = refl
 
+  -- what comes of station n, where the memory is m and the answer of the stations before it is r
+  abbrev pub Turn : (m : List ℕ) (n : ℕ) (r : Reply) (m' : List ℕ) (r' : Reply) → Type 0
+  Turn m n r m' r' = (m' ≡ with_block m n (command_where pattern a f w n (block_of m n))) × (r' ≡ joined_where pattern n r (reply_of m n a f w))
+
   -- a station that is not addressed keeps its block
-  pub where-off : (m : List ℕ) (n : ℕ) (r t : Reply) → length m ≡ 768 → n ≤ 23 → (bit_of (n - 1) pattern ≡ 1 → ⊥)
-      → (r ≡ joined_where pattern n r t) × (m ≡ with_block m n (command_where pattern a f w n (block_of m n)))
+  pub where-off : (m : List ℕ) (n : ℕ) (r : Reply) (m' : List ℕ) (r' : Reply) → length m ≡ 768 → n ≤ 23 → (bit_of (n - 1) pattern ≡ 1 → ⊥) → m' ≡ m → r' ≡ r
+      → Turn m n r m' r'
   unfolding command_where
-  where-off m n r t size hi d =
-      let off : is_addressed pattern n ≡ false = ne_eqb _ 1 d in (
-        ap (λ (u : Bool). cond u (joined r t) r) (sym off),
-        sym (put-block m n size (omega arith)) ∙ ap (λ (u : Bool). with_block m n (cond u (command_of (block_of m n) a f w).block (block_of m n))) (sym off),
-      )
+  where-off m n r m' r' size hi d e g =
+      let off : is_addressed pattern n ≡ false = ne_eqb _ 1 d in
+      (rw (e, off) (sym (put-block m n size (omega arith))), g ∙ ap (λ (u : Bool). cond u (joined r (reply_of m n a f w)) r) (sym off))
 
   -- one that is gets the command
-  pub where-on : (m : List ℕ) (n : ℕ) (earlier r t : Reply) (m' : List ℕ) → bit_of (n - 1) pattern ≡ 1 → r ≡ reply_of m n a f w → m' ≡ after_command m n a f w
-      → t ≡ joined earlier r
-      → (t ≡ joined_where pattern n earlier (reply_of m n a f w)) × (m' ≡ with_block m n (command_where pattern a f w n (block_of m n)))
+  pub where-on : (m : List ℕ) (n : ℕ) (r : Reply) (m' : List ℕ) (r' : Reply) → bit_of (n - 1) pattern ≡ 1 → m' ≡ after_command m n a f w
+      → r' ≡ joined r (reply_of m n a f w) → Turn m n r m' r'
   unfolding command_where after_command
-  where-on m n earlier r t m' e p g j =
-      let on : is_addressed pattern n ≡ true = eq-eqb _ 1 e in (
-        j ∙ ap (joined earlier) p ∙ ap (λ (u : Bool). cond u (joined earlier (reply_of m n a f w)) earlier) (sym on),
-        g ∙ ap (λ (u : Bool). with_block m n (cond u (command_of (block_of m n) a f w).block (block_of m n))) (sym on),
-      )
+  where-on m n r m' r' i e g =
+      let on : is_addressed pattern n ≡ true = eq-eqb _ 1 i in
+      (rw (e, on), g ∙ ap (λ (u : Bool). cond u (joined r (reply_of m n a f w)) r) (sym on))
 
   module _ (s : a ≤ 15) (l : w ≤ 16777215) where
     pub where-kept : (n : ℕ) (b : List ℕ) → FitBlock b → Kept b (command_where pattern a f w n b)
@@ -69,16 +67,26 @@ module _ (pattern a f w : ℕ) where
       many-fit k h = each-fit (command_where pattern a f w) where-kept m q k h
 
       -- one station more: its answer is that from the memory as it was
-      pub replies-more : (k : ℕ) (x : List ℕ) (r t : Reply) → k < 23 → x ≡ each_station (command_where pattern a f w) k m → r ≡ replies_to pattern a f w k m
-          → t ≡ joined_where pattern (k + 1) r (reply_of x (k + 1) a f w) → t ≡ replies_to pattern a f w (k + 1) m
+      replies-more : (k : ℕ) (x : List ℕ) (r t : Reply) → k < 23 → x ≡ each_station (command_where pattern a f w) k m → r ≡ replies_to pattern a f w k m
+          → t ≡ joined_where pattern (suc k) r (reply_of x (suc k) a f w) → t ≡ replies_to pattern a f w (suc k) m
       unfolding replies_to reply_of
       replies-more k x r t h e p g =
           let block : block_of x (suc k) ≡ block_of m (suc k) =
           ap (λ (z : List ℕ). block_of z (suc k)) e ∙ each-later (command_where pattern a f w) where-kept m q k (suc k) (omega arith) (omega arith) in
-          rw (add-one k)
-          ((rw (add-one k) at g)
+          g
           ∙ ap (λ (z : Reply). joined_where pattern (suc k) z (command_of (block_of x (suc k)) a f w).reply) p
-          ∙ ap (λ (b : List ℕ). joined_where pattern (suc k) (replies_to pattern a f w k m) (command_of b a f w).reply) block)
+          ∙ ap (λ (b : List ℕ). joined_where pattern (suc k) (replies_to pattern a f w k m) (command_of b a f w).reply) block
+
+      -- the loop's turn: the stations before n have had theirs, and then station n too
+      pub many-more : (n : ℕ) (x : List ℕ) (r : Reply) (x' : List ℕ) (r' : Reply) → 1 ≤ n → n ≤ 23
+          → x ≡ each_station (command_where pattern a f w) (n - 1) m → r ≡ replies_to pattern a f w (n - 1) m → Turn x n r x' r'
+          → (x' ≡ each_station (command_where pattern a f w) (n + 1 - 1) m) × (r' ≡ replies_to pattern a f w (n + 1 - 1) m)
+      many-more n x r x' r' lo hi e p t =
+          let at : suc (n - 1) ≡ n = omega arith in
+          let up : n + 1 - 1 ≡ suc (n - 1) = omega arith in (
+            each_more (command_where pattern a f w) where-kept m q n x x' lo hi e t.0,
+            rw up (replies-more (n - 1) x r r' (omega arith) e p (rw at t.1)),
+          )
 
 -- ---- every command: what holds of each way that a command can go holds of all
 pub record EachWay (P : Commanded → Type 0) (m : List ℕ) (n a f w : ℕ) : Type 0 where

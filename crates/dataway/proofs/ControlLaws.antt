@@ -1,11 +1,10 @@
 -- What is done to each station is done to its own block, once; and so Z, C and I leave a fit crate fit.
 -- Assumes nothing.
-use Prim.Native.Nat.{ℕ, zero, suc, ◌+◌, ◌≤◌, ◌<◌}
+use Prim.Native.Nat.{ℕ, zero, suc, ◌+◌, ◌-◌, ◌≤◌, ◌<◌}
 use mathlib.Core.Path.{◌≡◌, refl, sym, ap, subst, ◌∙◌}
 use mathlib.Core.List.{List}
 use mathlib.Core.Logic.{⊎_elim}
 use native.Mathlib.Omega.{arith}
-use native.Mathlib.Numerals.{add-one}
 use lib.ListN.{length}
 use Rattle.blocks.specs.Blocks.{block_of, with_block}
 use Rattle.blocks.proofs.Blocks.{length-with, block_same, block-other}
@@ -46,10 +45,6 @@ module _ (g : ℕ → List ℕ → List ℕ) (keep : (n : ℕ) (b : List ℕ) �
   pub each-front : (k : ℕ) → k ≤ 23 → block_of (each_station g k m) 0 ≡ block_of m 0
   each-front k l = each-other k 0 l (λ j lo hi e. omega arith)
 
-  -- a memory that a loop over the stations has come to has 768 words
-  pub each_long : (k : ℕ) (x : List ℕ) → k ≤ 23 → x ≡ each_station g k m → length x ≡ 768
-  each_long k x l e = ap length e ∙ each-size k l
-
   -- the memory stays fit: each block is replaced by one of the same module
   pub each-fit : (k : ℕ) → k ≤ 23 → FitCrate (each_station g k m)
   unfolding each_station
@@ -72,16 +67,24 @@ module _ (g : ℕ → List ℕ → List ℕ) (keep : (n : ℕ) (b : List ℕ) �
       ∙ each-block k n lo (omega arith) (omega arith))
       (alike n (suc k))
 
-  -- one station more, as a loop over the stations does it
-  pub each_more : (k : ℕ) (x y : List ℕ) → k < 23 → x ≡ each_station g k m → y ≡ with_block x (k + 1) (g (k + 1) (block_of x (k + 1))) → y ≡ each_station g (k + 1) m
+  -- station n too, as a loop over the stations does it
+  pub each_more : (n : ℕ) (x y : List ℕ) → 1 ≤ n → n ≤ 23 → x ≡ each_station g (n - 1) m → y ≡ with_block x n (g n (block_of x n))
+      → y ≡ each_station g (n + 1 - 1) m
   unfolding each_station
-  each_more k x y h e s =
+  each_more zero x y lo hi e s = absurd (omega arith)
+  each_more (suc k) x y lo hi e s =
+      let up : suc k + 1 - 1 ≡ suc k = omega arith in
+      let down : suc k - 1 ≡ k = omega arith in
       s
-      ∙ ap (λ (z : List ℕ). with_block z (k + 1) (g (k + 1) (block_of z (k + 1)))) e
-      ∙ rw (add-one k) (ap (λ (b : List ℕ). with_block (each_station g k m) (suc k) (g (suc k) b)) (each-later k (suc k) (omega arith) (omega arith)))
+      ∙ ap (λ (z : List ℕ). with_block z (suc k) (g (suc k) (block_of z (suc k)))) (rw down at e)
+      ∙ rw up (ap (λ (b : List ℕ). with_block (each_station g k m) (suc k) (g (suc k) b)) (each-later k (suc k) (omega arith) hi))
+
+  -- where it has come to station n, the memory is fit
+  pub each_so_far : (n : ℕ) (x : List ℕ) → n ≤ 24 → x ≡ each_station g (n - 1) m → FitCrate x
+  each_so_far n x h e = rw e (each-fit (n - 1) (omega arith))
 
 -- no station yet
-pub each_none : (g : ℕ → List ℕ → List ℕ) (m : List ℕ) → m ≡ each_station g 0 m
+pub each_none : (g : ℕ → List ℕ → List ℕ) (m : List ℕ) → m ≡ each_station g (1 - 1) m
 unfolding each_station
 each_none g m = refl
 

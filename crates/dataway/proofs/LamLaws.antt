@@ -11,15 +11,12 @@ use native.Mathlib.Omega.{arith}
 use borrow.Author.Tests.{ne_eqb}
 use lib.Dec.{eqb}
 use lib.Arith.{lt-one}
-use lib.Bits.{bit_and, bit_or, block_half, block_odd}
+use lib.Bits.{bit_or, block_half, block_odd}
 use lib.Pow.{pow_pos}
 use lib.Count.{ones, ones_cat, count_trailing_zeros, under}
-use Rattle.blocks.specs.Blocks.{word, block_of}
-use Rattle.blocks.proofs.Blocks.{word-block}
 use Rattle.word24.specs.Word.{bit_of, as_bit, bits_of}
 use Rattle.word24.proofs.BitsOf.{bits-suc, bits-lt, bits-or, bits-bit, bits-unique}
-use Rattle.station.specs.Block.{request_of}
-use Rattle.kinds.proofs.TestLaws.{alike, positive}
+use Rattle.kinds.proofs.TestLaws.{alike}
 use Rattle.dataway.specs.Lam.{is_requesting, requests, pattern_to, count_to, first_from, lam_of}
 use Rattle.dataway.specs.declared.lam.LamReading.{LamReading}
 
@@ -31,18 +28,6 @@ request-bit m n = go (is_requesting m n)
     go : (s : Bool) → (as_bit s ≡ 0) ⊎ (as_bit s ≡ 1)
     go true = inr refl
     go false = inl refl
-
--- the words of the memory that the code reads are those of the block
-read : (m : List ℕ) (n : ℕ) → request_of (block_of m n) ≡ bit_and (word m n 2) (word m n 3)
-read m n = ap₂ bit_and (word-block m n 2 (omega arith)) (word-block m n 3 (omega arith))
-
-pub request-none : (m : List ℕ) (n : ℕ) → bit_and (word m n 2) (word m n 3) ≡ 0 → 0 ≡ requests m n
-unfolding requests is_requesting
-request-none m n e = simp (read m n, e)
-
-pub request-some : (m : List ℕ) (n : ℕ) → (bit_and (word m n 2) (word m n 3) ≡ 0 → ⊥) → 1 ≡ requests m n
-unfolding requests is_requesting
-request-some m n f = simp (positive _ _ (sym (read m n)) f)
 
 -- ---- the trailing zeros of a number
 -- more digits above a number that is not 0 change nothing
@@ -87,10 +72,11 @@ module _ (m : List ℕ) where
   unfolding pattern_to
   pattern_lt k = bits-lt test k
 
-  -- the bit of station k + 1 put in its place, as `request << k` and `|` do
-  pub pattern-or : (k : ℕ) → k < 23 → bit_or (pattern_to k m) ((requests m (k + 1) * 2 ^ k) % 2 ^ 32) ≡ pattern_to (k + 1) m
-  unfolding pattern_to requests
-  pattern-or k h = ap (λ (n : ℕ). bit_or (bits_of test k) ((as_bit (is_requesting m n) * 2 ^ k) % 2 ^ 32)) (add-one k) ∙ bits-or test 32 k (omega arith)
+  -- the bit of station k + 1 put in its place, as `<< k` and `|` do
+  pub pattern-or : (k l t : ℕ) → k < 23 → l ≡ pattern_to k m → t ≡ as_bit (is_requesting m (k + 1)) → bit_or l ((t * 2 ^ k) % 2 ^ 32) ≡ pattern_to (k + 1) m
+  unfolding pattern_to
+  pattern-or k l t h e f =
+      ap₂ (λ (x y : ℕ). bit_or x ((y * 2 ^ k) % 2 ^ 32)) e (f ∙ ap (λ (n : ℕ). as_bit (is_requesting m n)) (add-one k)) ∙ bits-or test 32 k (omega arith)
 
   pub pattern-bit : (k i : ℕ) → i < k → bit_of i (pattern_to k m) ≡ requests m (suc i)
   unfolding pattern_to requests
@@ -176,14 +162,14 @@ module _ (m : List ℕ) where
     count-is : ones l ≡ count_to 23 m
     count-is = ap ones e ∙ pattern-ones 23
 
-    pub reading-none : l ≡ 0 → ◌≡◌ {A = LamReading} (record { l = l; count = ones l; first = 0 }) (lam_of m)
+    pub reading-none : (first : ℕ) → l ≡ 0 → first ≡ 0 → ◌≡◌ {A = LamReading} (record { l = l; count = ones l; first = first }) (lam_of m)
     unfolding lam_of
-    reading-none z =
-        let f : 0 ≡ first_to 23 = sym (first-none 23 (sym e ∙ z)) in
-        λ i. record { l = e i; count = count-is i; first = f i }
+    reading-none first z f =
+        let lowest : first ≡ first_to 23 = f ∙ sym (first-none 23 (sym e ∙ z)) in
+        λ i. record { l = e i; count = count-is i; first = lowest i }
 
-    pub reading-some : (l ≡ 0 → ⊥) → ◌≡◌ {A = LamReading} (record { l = l; count = ones l; first = count_trailing_zeros 32 l + 1 }) (lam_of m)
+    pub reading-some : (first : ℕ) → (l ≡ 0 → ⊥) → first ≡ count_trailing_zeros 32 l + 1 → ◌≡◌ {A = LamReading} (record { l = l; count = ones l; first = first }) (lam_of m)
     unfolding lam_of
-    reading-some n =
-        let f : count_trailing_zeros 32 l + 1 ≡ first_to 23 = ap (λ (x : ℕ). count_trailing_zeros 32 x + 1) e ∙ first_some 23 (omega arith) (λ z. n (e ∙ z)) in
-        λ i. record { l = e i; count = count-is i; first = f i }
+    reading-some first n f =
+        let lowest : first ≡ first_to 23 = f ∙ ap (λ (x : ℕ). count_trailing_zeros 32 x + 1) e ∙ first_some 23 (omega arith) (λ z. n (e ∙ z)) in
+        λ i. record { l = e i; count = count-is i; first = lowest i }

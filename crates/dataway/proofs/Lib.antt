@@ -1,3 +1,4 @@
+pub mod EveryLaws
 pub mod CrateLaws
 pub mod StationLaws
 pub mod ModuleLaws

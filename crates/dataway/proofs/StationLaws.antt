@@ -2,14 +2,16 @@
 -- comes back as the definition at the crate says.
 -- Assumes nothing.
 use Prim.Native.Nat.{ℕ, ◌+◌, ◌-◌, ◌*◌, ◌≤◌, ◌<◌}
-use mathlib.Core.Path.{◌≡◌, refl, sym, ap, ◌∙◌}
+use mathlib.Core.Path.{◌≡◌, sym, ap, ◌∙◌}
 use mathlib.Core.List.{List}
 use native.Mathlib.Omega.{arith}
 use borrow.Rule.Slice.PartMut.{put_mid, mid_of}
 use lib.ListN.{length, replicate, set}
 use Rattle.blocks.specs.Blocks.{block_of, with_block, inhibit_of}
-use Rattle.blocks.proofs.Blocks.{length-block, block_same, set-put, part-block, part-back}
+use Rattle.blocks.proofs.Blocks.{length-block, block_same, part-block, part-back}
 use Rattle.acceptance.specs.declared.Span.{Span}
+use Rattle.station.specs.Block.{FitBlock}
+use Rattle.station.specs.Accepted.{Accepts}
 use Rattle.station.specs.Kept.{Kept}
 use Rattle.station.specs.declared.Reply.{Reply}
 use Rattle.station.specs.Outcome.{Outcome}
@@ -48,38 +50,57 @@ module _ (m : List ℕ) (n : ℕ) (h : FitCrate m) (lo : 1 ≤ n) (hi : n ≤ 23
   unfolding after_front
   front-fit a v s l = fit-with m n (front_of (inhibit_of m) (block_of m n) a v).block h lo hi (front-block a v s l)
 
--- ---- a block lent, from 32 n up to 32 n + 32
-module _ (m : List ℕ) (n : ℕ) where
+-- ---- a block lent
+module _ (m : List ℕ) (n from to : ℕ) (start : from ≡ 32 * n) (end : to ≡ 32 * n + 32) where
   abbrev lent : List ℕ
-  lent = mid_of (32 * n) (32 * n + 32 - 32 * n) m
+  lent = mid_of from (to - from) m
 
   abbrev back : List ℕ → List ℕ
-  back b = put_mid (32 * n) (32 * n + 32 - 32 * n) m b
+  back b = put_mid from (to - from) m b
+
+  -- of a fit crate it is fit
+  pub fit_lent : FitCrate m → 1 ≤ n → n ≤ 23 → FitBlock lent
+  fit_lent h lo hi = rw (part-block m n from to start end) (h.station n lo hi)
+
+  -- the subaddresses that it accepts are the station's
+  pub accepts_lent : (f : ℕ) (t : Span) → AcceptsAt m n f t → Accepts lent f t
+  accepts_lent f t q = rw (part-block m n from to start end) q
+
+  pub accepts_at : (f : ℕ) (t : Span) → Accepts lent f t → AcceptsAt m n f t
+  accepts_at f t q = rw (part-block m n from to start end) at q
 
   -- to what makes g of it
-  pub block-lent : (g : List ℕ → List ℕ) (b : List ℕ) → b ≡ g lent → back b ≡ with_block m n (g (block_of m n))
-  block-lent g b e = part-back m n b ∙ ap (with_block m n) (e ∙ ap g (part-block m n))
+  pub block_lent : (g : List ℕ → List ℕ) (b : List ℕ) → b ≡ g lent → back b ≡ with_block m n (g (block_of m n))
+  block_lent g b q = part-back m n from to start end b ∙ ap (with_block m n) (q ∙ ap g (part-block m n from to start end))
+
+  -- to what zeroes it, and then says that it is covered
+  pub cover_lent : length m ≡ 768 → n < 24 → (b : List ℕ) → b ≡ replicate (length lent) 0 → back (set b 7 1) ≡ with_block m n covered_block
+  cover_lent size l b q =
+      block_lent (λ (x : List ℕ). set (replicate (length x) 0) 7 1) (set b 7 1) (ap (λ (x : List ℕ). set x 7 1) q)
+      ∙ ap (λ (k : ℕ). with_block m n (set (replicate k 0) 7 1)) (length-block m n size l)
 
   -- to the station's command
-  pub command-lent : (a f w : ℕ) (b : List ℕ) (r : Reply) → command_of lent a f w ≡ record { block = b; reply = r }
-      → (r ≡ reply_of m n a f w) × (back b ≡ after_command m n a f w)
-  unfolding reply_of after_command
-  command-lent a f w b r e =
-      let h : command_of (block_of m n) a f w ≡ record { block = b; reply = r } = ap (λ (x : List ℕ). command_of x a f w) (sym (part-block m n)) ∙ e in
-      (sym (ap (λ (o : Outcome). o.reply) h), part-back m n b ∙ sym (ap (λ (o : Outcome). with_block m n o.block) h))
+  module _ (a f w : ℕ) (b : List ℕ) (r : Reply) (q : command_of lent a f w ≡ record { block = b; reply = r }) where
+    of-block : command_of (block_of m n) a f w ≡ record { block = b; reply = r }
+    of-block = rw (part-block m n from to start end) at q
+
+    pub command_reply : r ≡ reply_of m n a f w
+    unfolding reply_of
+    command_reply = sym (ap (λ (o : Outcome). o.reply) of-block)
+
+    pub command_leaves : back b ≡ after_command m n a f w
+    unfolding after_command
+    command_leaves = part-back m n from to start end b ∙ sym (ap (λ (o : Outcome). with_block m n o.block) of-block)
 
   -- to the station's front event
-  pub front-lent : (a v : ℕ) (b : List ℕ) (t : ℕ) → front_of (inhibit_of m) lent a v ≡ record { block = b; taken = t }
-      → (t ≡ taken_of m n a v) × (back b ≡ after_front m n a v)
-  unfolding taken_of after_front
-  front-lent a v b t e =
-      let h : front_of (inhibit_of m) (block_of m n) a v ≡ record { block = b; taken = t } =
-      ap (λ (x : List ℕ). front_of (inhibit_of m) x a v) (sym (part-block m n)) ∙ e in
-      (sym (ap (λ (o : Event). o.taken) h), part-back m n b ∙ sym (ap (λ (o : Event). with_block m n o.block) h))
+  module _ (a v : ℕ) (b : List ℕ) (t : ℕ) (q : front_of (inhibit_of m) lent a v ≡ record { block = b; taken = t }) where
+    at-block : front_of (inhibit_of m) (block_of m n) a v ≡ record { block = b; taken = t }
+    at-block = rw (part-block m n from to start end) at q
 
-  -- to what zeroes it, and then covered
-  pub cover-lent : (b : List ℕ) → length m ≡ 768 → n < 24 → b ≡ replicate (length lent) 0 → set (back b) (32 * n + 7) 1 ≡ with_block m n covered_block
-  cover-lent b size l e =
-      let zeroed : back b ≡ with_block m n (replicate 32 0) =
-      block-lent (λ (x : List ℕ). replicate (length x) 0) b e ∙ ap (λ (k : ℕ). with_block m n (replicate k 0)) (length-block m n size l) in
-      ap (λ (x : List ℕ). set x (32 * n + 7) 1) zeroed ∙ set-put m n (replicate 32 0) 7 1 size l refl (omega arith)
+    pub front_taken : t ≡ taken_of m n a v
+    unfolding taken_of
+    front_taken = sym (ap (λ (o : Event). o.taken) at-block)
+
+    pub front_leaves : back b ≡ after_front m n a v
+    unfolding after_front
+    front_leaves = part-back m n from to start end b ∙ sym (ap (λ (o : Event). with_block m n o.block) at-block)

@@ -1,47 +1,18 @@
 // The common controls: Z and C at every station, and Inhibit. And the Station Number Register.
-ghost use Rattle.std.specs.Prelude.{◌≡◌, ◌≤◌, length};
-ghost use Rattle.blocks.specs.Blocks.{block_of, with_block};
-ghost use Rattle.station.specs.Block.{FitBlock};
-ghost use Rattle.station.specs.Control.{initialized_of, cleared_of};
+ghost use Rattle.std.specs.Prelude.{◌≡◌, ◌≤◌};
 ghost use Rattle.dataway.specs.Crate.{FitCrate};
 ghost use Rattle.dataway.specs.Controls.{after_z, after_c, after_i, after_snr};
 
-use crate::{INHIBIT, STATION_NUMBERS};
-use blocks::{BLOCK_WORDS, STATIONS};
-
-// Z at station n.
-fn initialize_station(memory: &mut [u32], n: usize)
-    requires fact_1 { length memory.old ≡ 768 }
-    requires fact_2 { n ≤ 23 }
-    requires fact_3 { FitBlock (block_of memory.old n) }
-    ensures { memory.new ≡ with_block memory.old n (initialized_of (block_of memory.old n)) }
-{
-    let from = BLOCK_WORDS * n;
-    let to = from + BLOCK_WORDS;
-    panel::control::initialize(&mut memory[from..to]);
-}
-
-// C at station n.
-fn clear_station(memory: &mut [u32], n: usize)
-    requires fact_1 { length memory.old ≡ 768 }
-    requires fact_2 { n ≤ 23 }
-    requires fact_3 { FitBlock (block_of memory.old n) }
-    ensures { memory.new ≡ with_block memory.old n (cleared_of (block_of memory.old n)) }
-{
-    let from = BLOCK_WORDS * n;
-    let to = from + BLOCK_WORDS;
-    panel::control::clear(&mut memory[from..to]);
-}
+use crate::{INHIBIT, STATION_NUMBERS, block};
+use blocks::STATIONS;
 
 // Z: every station, Inhibit set, and the Station Number Register emptied.
 pub fn initialize(memory: &mut [u32])
     requires { FitCrate memory.old }
     ensures { memory.new ≡ after_z memory.old }
 {
-    let mut k = 0;
-    while k < STATIONS {
-        initialize_station(memory, k + 1);
-        k += 1;
+    for n in 1..=STATIONS {
+        panel::control::initialize(&mut memory[block(n)]);
     }
     memory[INHIBIT] = 1;
     memory[STATION_NUMBERS] = 0;
@@ -52,10 +23,8 @@ pub fn clear(memory: &mut [u32])
     requires { FitCrate memory.old }
     ensures { memory.new ≡ after_c memory.old }
 {
-    let mut k = 0;
-    while k < STATIONS {
-        clear_station(memory, k + 1);
-        k += 1;
+    for n in 1..=STATIONS {
+        panel::control::clear(&mut memory[block(n)]);
     }
 }
 

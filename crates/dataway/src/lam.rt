@@ -1,9 +1,10 @@
 // The Look-at-Me reading: the L pattern, its count of ones, and the lowest requesting station by its trailing zeros.
-ghost use Rattle.std.specs.Prelude.{◌≡◌, ◌<◌, length};
+ghost use Rattle.std.specs.Prelude.{◌≡◌, ◌≤◌, length};
 ghost use Rattle.dataway.specs.Crate.{FitCrate};
-ghost use Rattle.dataway.specs.Lam.{requests, pattern_to, lam_of};
+ghost use Rattle.dataway.specs.Lam.{is_requesting, pattern_to, lam_of};
 
-use blocks::{BLOCK_WORDS, STATIONS};
+use crate::block;
+use blocks::STATIONS;
 use station::block::{MASK, STATUS};
 
 // L, how many of its bits are 1, and the lowest requesting station, or 0.
@@ -14,18 +15,14 @@ pub struct LamReading {
     pub first: u32,
 }
 
-// 1 where station n requests, else 0.
-fn request(memory: &[u32], n: usize) -> u32
-    requires fact_1 { length memory.now ≡ 768 }
-    requires fact_2 { n < 24 }
-    ensures { result ≡ requests memory.now n }
+// Whether station n requests.
+fn is_requesting(memory: &[u32], n: usize) -> bool
+    requires memory_len { length memory.now ≡ 768 }
+    requires n_bound { n ≤ 23 }
+    ensures { result ≡ is_requesting memory.now n }
 {
-    let from = BLOCK_WORDS * n;
-    if memory[from + STATUS] & memory[from + MASK] == 0 {
-        0
-    } else {
-        1
-    }
+    let b = &memory[block(n)];
+    b[STATUS] & b[MASK] > 0
 }
 
 // L: bit n of it belongs to station n + 1.
@@ -33,9 +30,9 @@ fn l_pattern(memory: &[u32]) -> u32
     requires { length memory.now ≡ 768 }
     ensures { result ≡ pattern_to 23 memory.now }
 {
-    let mut l: u32 = 0;
+    let mut l = 0;
     for n in 0..STATIONS {
-        l |= request(memory, n + 1) << n;
+        l |= u32::from(is_requesting(memory, n + 1)) << n;
     }
     l
 }
@@ -46,13 +43,10 @@ pub fn look_at_me(memory: &[u32]) -> LamReading
     ensures { result ≡ lam_of memory.now }
 {
     let l = l_pattern(memory);
-    let count = u32::count_ones(l);
-    if l == 0 {
-        return LamReading { l, count, first: 0 };
-    }
+    let first = if l == 0 { 0 } else { l.trailing_zeros() + 1 };
     LamReading {
         l,
-        count,
-        first: u32::trailing_zeros(l) + 1,
+        count: l.count_ones(),
+        first,
     }
 }

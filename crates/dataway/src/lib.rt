@@ -2,21 +2,21 @@
 // test whether the memory is fit.
 #![tactic(auto)]
 
-ghost use Rattle.std.specs.Prelude.{◌≡◌, ◌≤◌, length};
-ghost use Rattle.blocks.specs.Blocks.{word, with_block};
+ghost use Rattle.std.specs.Prelude.{◌≡◌, ◌≤◌, ◌+◌, ◌*◌, length};
+ghost use Rattle.blocks.specs.Blocks.{word};
 ghost use Rattle.kinds.specs.Table.{FitModule};
 ghost use Rattle.station.specs.Accepted.{ReadFunction};
-ghost use Rattle.station.specs.Control.{module_of, covered_block};
 ghost use Rattle.dataway.specs.Crate.{FitCrate};
 ghost use Rattle.dataway.specs.Addressed.{Commanded, sent_of};
-ghost use Rattle.dataway.specs.Stations.{reply_of, after_command, AcceptsAt, taken_of, after_front, occupied_by, uncovered, with_module};
+ghost use Rattle.dataway.specs.Stations.{reply_of, after_command, AcceptsAt, taken_of, after_front, occupied_by, with_module};
 
 use acceptance::Span;
 use address::{ALL_STATIONS, command_many, common, internal};
 use blocks::{BLOCK_WORDS, STATIONS};
 use kinds::Module;
-use station::block::{COVERED, zero};
+use station::block::COVERED;
 use station::{NOT_ACCEPTED, Reply};
+use std::ops::Range;
 
 mod address;
 pub mod control;
@@ -29,31 +29,35 @@ pub const INHIBIT: usize = 0;
 // And the Station Number Register.
 pub const STATION_NUMBERS: usize = 1;
 
-// The N of the last station.
-const LAST_STATION: u32 = 23;
+// The place of block n in the memory.
+fn block(n: usize) -> Range<usize>
+    requires { n ≤ 23 }
+    ensures start { result.start ≡ 32 * n }
+    ensures end { result.end ≡ 32 * n + 32 }
+{
+    let from = BLOCK_WORDS * n;
+    from..from + BLOCK_WORDS
+}
 
 // One command to station n.
 pub fn command(memory: &mut [u32], n: u32, a: u32, f: u32, w: u32) -> Reply
     requires fit_crate { FitCrate memory.old }
-    requires le_n { (1 ≤ n) × (n ≤ 23) × (a ≤ 15) × (f ≤ 31) × (w ≤ 16777215) }
+    requires fields { (1 ≤ n) × (n ≤ 23) × (a ≤ 15) × (f ≤ 31) × (w ≤ 16777215) }
     ensures answer { result ≡ reply_of memory.old n a f w }
     ensures memory { memory.new ≡ after_command memory.old n a f w }
 {
-    let from = BLOCK_WORDS * n as usize;
-    let to = from + BLOCK_WORDS;
-    station::command(&mut memory[from..to], a, f, w)
+    station::command(&mut memory[block(n as usize)], a, f, w)
 }
 
 // A command to N: a station, the stations of the Station Number Register, all 23, or the controller itself.
+#[tactic(auto, unfolding(crate::specs::Addressed::sent_of))]
 pub fn send(memory: &mut [u32], n: u32, a: u32, f: u32, w: u32) -> Reply
     requires fit_crate { FitCrate memory.old }
-    requires le_n { (1 ≤ n) × (a ≤ 15) × (f ≤ 31) × (w ≤ 16777215) }
-    ensures { sent_of memory.entry.now n a f w ≡ record { memory = memory.exit.now; reply = result } }
+    requires fields { (1 ≤ n) × (a ≤ 15) × (f ≤ 31) × (w ≤ 16777215) }
+    ensures { sent_of memory.old n a f w ≡ record { memory = memory.new; reply = result } }
 {
-    if n <= LAST_STATION {
-        return command(memory, n, a, f, w);
-    }
     match n {
+        1..=23 => command(memory, n, a, f, w),
         24 => {
             let pattern = memory[STATION_NUMBERS];
             command_many(memory, pattern, a, f, w)
@@ -68,38 +72,32 @@ pub fn send(memory: &mut [u32], n: u32, a: u32, f: u32, w: u32) -> Reply
 // The subaddresses at which station n accepts function f.
 pub fn accepted(memory: &[u32], n: u32, f: u32) -> Span
     requires fit_crate { FitCrate memory.now }
-    requires le_n { (1 ≤ n) × (n ≤ 23) × (f ≤ 31) }
+    requires fields { (1 ≤ n) × (n ≤ 23) × (f ≤ 31) }
     ensures { AcceptsAt memory.now n f result }
 {
-    let from = BLOCK_WORDS * n as usize;
-    let to = from + BLOCK_WORDS;
-    station::accepted(&memory[from..to], f)
+    station::accepted(&memory[block(n as usize)], f)
 }
 
 // One cycle of a block transfer at station n, which was asked before which subaddresses it accepts.
 pub fn cycle(memory: &mut [u32], span: Span, n: u32, a: u32, f: u32) -> Reply
     requires fit_crate { FitCrate memory.old }
     requires accepts_at { AcceptsAt memory.old n f span }
-    requires le_n { (1 ≤ n) × (n ≤ 23) × (a ≤ 15) × ReadFunction f }
+    requires fields { (1 ≤ n) × (n ≤ 23) × (a ≤ 15) × ReadFunction f }
     ensures answer { result ≡ reply_of memory.old n a f 0 }
     ensures memory { memory.new ≡ after_command memory.old n a f 0 }
 {
-    let from = BLOCK_WORDS * n as usize;
-    let to = from + BLOCK_WORDS;
-    station::cycle(&mut memory[from..to], span, a, f)
+    station::cycle(&mut memory[block(n as usize)], span, a, f)
 }
 
 // One front event at station n: 0 not taken, 1 taken, 2 taken and a status bit went from 0 to 1, 3 the word was lost in a full buffer memory.
 pub fn front_event(memory: &mut [u32], n: u32, a: u32, v: u32) -> u32
     requires fit_crate { FitCrate memory.old }
-    requires le_n { (1 ≤ n) × (n ≤ 23) × (a ≤ 15) × (v ≤ 16777215) }
+    requires fields { (1 ≤ n) × (n ≤ 23) × (a ≤ 15) × (v ≤ 16777215) }
     ensures answer { result ≡ taken_of memory.old n a v }
     ensures memory { memory.new ≡ after_front memory.old n a v }
 {
     let inhibit = memory[INHIBIT];
-    let from = BLOCK_WORDS * n as usize;
-    let to = from + BLOCK_WORDS;
-    panel::front::front_event(&mut memory[from..to], inhibit, a, v)
+    panel::front::front_event(&mut memory[block(n as usize)], inhibit, a, v)
 }
 
 // Word 7 of station n, 1 where its left neighbour covers it. What is no station is not covered.
@@ -107,65 +105,37 @@ pub fn covered(memory: &[u32], n: u32) -> u32
     requires { FitCrate memory.now }
     ensures { result ≡ word memory.now n 7 }
 {
-    let k = n as usize;
-    if STATIONS < k {
-        return 0;
-    }
-    memory[BLOCK_WORDS * k + COVERED]
+    memory
+        .get(BLOCK_WORDS * n as usize + COVERED)
+        .copied()
+        .unwrap_or(0)
 }
 
-// Puts a module into its own block.
-fn put_block(memory: &mut [u32], held: Module)
-    requires fact_1 { length memory.old ≡ 768 }
-    requires fact_2 { held.n ≤ 23 }
-    ensures { memory.new ≡ with_block memory.old held.n (module_of held) }
-{
-    let from = BLOCK_WORDS * held.n as usize;
-    let to = from + BLOCK_WORDS;
-    panel::control::put_module(&mut memory[from..to], held);
-}
-
-// Leaves block n empty, and covered.
-fn cover_block(memory: &mut [u32], n: usize)
-    requires fact_1 { length memory.old ≡ 768 }
-    requires fact_2 { n ≤ 23 }
-    ensures { memory.new ≡ with_block memory.old n covered_block }
-{
-    let from = BLOCK_WORDS * n;
-    let to = from + BLOCK_WORDS;
-    zero(&mut memory[from..to]);
-    memory[from + COVERED] = 1;
-}
-
-// Takes the cover from block n, if there is such a block.
-fn uncover_block(memory: &mut [u32], n: usize)
-    requires fact_1 { length memory.old ≡ 768 }
-    requires fact_2 { n ≤ 24 }
-    ensures { memory.new ≡ uncovered memory.old n }
-{
-    if n <= STATIONS {
-        memory[BLOCK_WORDS * n + COVERED] = 0;
-    }
-}
-
-// Puts a module into the stations that it fills.
+// Puts a module into the stations that it fills: its own, and the one that it covers.
 fn occupy(memory: &mut [u32], held: Module)
-    requires fact_1 { length memory.old ≡ 768 }
-    requires fact_2 { FitModule held }
+    requires memory_len { length memory.old ≡ 768 }
+    requires fit_module { FitModule held }
     ensures { memory.new ≡ occupied_by memory.old held }
 {
-    put_block(memory, held);
+    let n = held.n as usize;
+    panel::control::put_module(&mut memory[block(n)], held);
     if held.wide == 2 {
-        cover_block(memory, held.n as usize + 1);
+        let covered = &mut memory[block(n + 1)];
+        covered.fill(0);
+        covered[COVERED] = 1;
     }
 }
 
-// Puts a module in, over whatever stood there.
+// Puts a module in, over whatever stood there. Nothing covers the station to its right, if there is one.
+#[tactic(auto, unfolding(crate::specs::Stations::with_module))]
 pub fn put_module(memory: &mut [u32], held: Module)
     requires fit_crate { FitCrate memory.old }
     requires fit_module { FitModule held }
     ensures { memory.new ≡ with_module memory.old held }
 {
     occupy(memory, held);
-    uncover_block(memory, held.n as usize + held.wide as usize);
+    let next = held.n as usize + held.wide as usize;
+    if next <= STATIONS {
+        memory[BLOCK_WORDS * next + COVERED] = 0;
+    }
 }

@@ -1,4 +1,4 @@
--- Laws of the table of kinds: the test as facts, bounds of its columns, and the kinds without sources.
+-- Laws of the table of kinds: the test as facts, bounds of its columns, and the width of a module.
 -- Assumes nothing.
 use Prim.Native.Nat.{ℕ, zero, suc, ◌+◌, ◌≤◌, ◌<◌}
 use mathlib.Core.Path.{◌≡◌, refl}
@@ -11,7 +11,7 @@ use native.Mathlib.Omega.{arith}
 use borrow.Author.Tests.{ltb-true, leb-true, lt-ltb, le-leb}
 use Rattle.kinds.specs.Table.{least_of, most_of, sources_with, last_head_of, most_fill_of, least_width_of, most_width_of, most_covered_of, in_table, FitModule}
 use Rattle.kinds.specs.declared.Module.{Module}
-use Rattle.kinds.proofs.TestLaws.{alike, all_true, last-decides}
+use Rattle.kinds.proofs.TestLaws.{alike, all_true}
 
 -- ---- the test as facts
 pub table-facts : (kind r wide : ℕ) → in_table kind r wide ≡ true
@@ -24,13 +24,6 @@ table-facts kind r wide h =
 pub facts-table : (kind r wide : ℕ) → kind < 6 → least_of kind ≤ r → r ≤ most_of kind → least_width_of kind ≤ wide → wide ≤ most_width_of kind → in_table kind r wide ≡ true
 unfolding in_table
 facts-table kind r wide k least most least_width most_width = simp (lt-ltb _ _ k, le-leb _ _ least, le-leb _ _ most, le-leb _ _ least_width, le-leb _ _ most_width)
-
--- where all tests but the last hold, the last decides
-pub table-last : (kind r wide : ℕ) → kind < 6 → least_of kind ≤ r → r ≤ most_of kind → least_width_of kind ≤ wide → leb wide (most_width_of kind) ≡ in_table kind r wide
-unfolding in_table
-table-last kind r wide k least most least_width =
-    last-decides (ltb kind 6 ∷ leb (least_of kind) r ∷ leb r (most_of kind) ∷ leb (least_width_of kind) wide ∷ []) (leb wide (most_width_of kind))
-    (lt-ltb _ _ k, (le-leb _ _ least, (le-leb _ _ most, (le-leb _ _ least_width, tt))))
 
 -- ---- bounds of a column
 abbrev AtMost : ℕ → List ℕ → Type 0
@@ -92,13 +85,3 @@ covered-kind (suc (suc (suc zero))) h = absurd (omega arith)
 covered-kind (suc (suc (suc (suc zero)))) h = absurd (omega arith)
 covered-kind (suc (suc (suc (suc (suc zero))))) h = absurd (omega arith)
 covered-kind (suc (suc (suc (suc (suc (suc kind)))))) h = absurd (omega arith)
-
--- ---- kinds 1, 3 and 5 have a source for each register, kind 4 two, and the others none
-pub sources-else : (kind r : ℕ) → (kind ≡ 1 → ⊥) → (kind ≡ 3 → ⊥) → (kind ≡ 5 → ⊥) → (kind ≡ 4 → ⊥) → sources_with kind r ≡ 0
-sources-else zero r a b c d = refl
-sources-else (suc zero) r a b c d = absurd (a refl)
-sources-else (suc (suc zero)) r a b c d = refl
-sources-else (suc (suc (suc zero))) r a b c d = absurd (b refl)
-sources-else (suc (suc (suc (suc zero)))) r a b c d = absurd (d refl)
-sources-else (suc (suc (suc (suc (suc zero))))) r a b c d = absurd (c refl)
-sources-else (suc (suc (suc (suc (suc (suc kind)))))) r a b c d = refl

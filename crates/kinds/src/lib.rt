@@ -1,7 +1,7 @@
 // The kinds of module, and the table of what a module of each kind may have. Definitions of tests and cases, which many tables are said with, stand here too.
 #![tactic(auto)]
 
-ghost use Rattle.std.specs.Prelude.{◌≡◌, ◌<◌};
+ghost use Rattle.std.specs.Prelude.{◌≡◌, ◌<◌, ◌&&◌, leb};
 ghost use Rattle.kinds.specs.Table.{in_table, sources_with, last_head_of, most_fill_of, most_covered_of};
 
 // A module: its station, its kind, its register count and its width in stations.
@@ -13,7 +13,8 @@ pub struct Module {
     pub wide: u32,
 }
 
-// The kinds that the code names; 0 is an empty station, 2 an output register.
+// The kinds that the code names; 0 is an empty station, 2 an output register. A kind is a number and no enum: a crate line and a word of the lent memory may
+// hold any number there, and the definitions speak of numbers.
 pub const SCALER: u32 = 1;
 
 pub const INPUT_REGISTER: u32 = 3;
@@ -22,39 +23,69 @@ pub const BUFFER_MEMORY: u32 = 4;
 
 pub const UP_DOWN_COUNTER: u32 = 5;
 
-// The columns of the table: the least and the most r, the last head, the most fill, the least and the most width, and the most cover of each kind.
-const LEAST: [u32; 6] = [0, 1, 1, 1, 1, 1];
+// What a module of a kind may have: the least and the most r, the last head, the most fill, the least and the most width, and the most cover.
+struct Row {
+    least: u32,
+    most: u32,
+    last_head: u32,
+    most_fill: u32,
+    least_width: u32,
+    most_width: u32,
+    most_covered: u32,
+}
 
-const MOST: [u32; 6] = [0, 16, 16, 16, 1, 16];
+impl Row {
+    // Whether such a module may have r registers and this width.
+    fn allows(&self, r: u32, wide: u32) -> bool
+        ensures { result ≡ (leb self.now.least r && leb r self.now.most && leb self.now.least_width wide && leb wide self.now.most_width) }
+    {
+        (self.least..=self.most).contains(&r)
+            && (self.least_width..=self.most_width).contains(&wide)
+    }
+}
 
-const LAST_HEAD: [u32; 6] = [0, 0, 0, 0, 15, 0];
+// The row of kinds 1, 2, 3 and 5, whose modules have up to 16 registers and no head.
+const PLAIN: Row = Row {
+    least: 1,
+    most: 16,
+    last_head: 0,
+    most_fill: 0,
+    least_width: 1,
+    most_width: 2,
+    most_covered: 0,
+};
 
-const MOST_FILL: [u32; 6] = [0, 0, 0, 0, 16, 0];
-
-const LEAST_WIDTH: [u32; 6] = [0, 1, 1, 1, 1, 1];
-
-const MOST_WIDTH: [u32; 6] = [0, 2, 2, 2, 2, 2];
-
-const MOST_COVERED: [u32; 6] = [1, 0, 0, 0, 0, 0];
+// The table: a row for each kind, from 0 on.
+const TABLE: [Row; 6] = [
+    Row {
+        least: 0,
+        most: 0,
+        last_head: 0,
+        most_fill: 0,
+        least_width: 0,
+        most_width: 0,
+        most_covered: 1,
+    },
+    PLAIN,
+    PLAIN,
+    PLAIN,
+    Row {
+        most: 1,
+        last_head: 15,
+        most_fill: 16,
+        ..PLAIN
+    },
+    PLAIN,
+];
 
 // A kind of the table, with r registers and a width as it may have.
+#[tactic(auto, unfolding(crate::specs::Table::in_table))]
 pub fn in_table(kind: u32, r: u32, wide: u32) -> bool
     ensures { result ≡ in_table kind r wide }
 {
-    if 6 <= kind {
-        return false;
-    }
-    let k = kind as usize;
-    if r < LEAST[k] {
-        return false;
-    }
-    if MOST[k] < r {
-        return false;
-    }
-    if wide < LEAST_WIDTH[k] {
-        return false;
-    }
-    wide <= MOST_WIDTH[k]
+    TABLE
+        .get(kind as usize)
+        .is_some_and(|row| row.allows(r, wide))
 }
 
 // How many LAM sources a module of this kind with r registers has.
@@ -73,7 +104,7 @@ pub fn last_head(kind: u32) -> u32
     requires { kind < 6 }
     ensures { result ≡ last_head_of kind }
 {
-    LAST_HEAD[kind as usize]
+    TABLE[kind as usize].last_head
 }
 
 // The most fill of a kind of the table.
@@ -81,7 +112,7 @@ pub fn most_fill(kind: u32) -> u32
     requires { kind < 6 }
     ensures { result ≡ most_fill_of kind }
 {
-    MOST_FILL[kind as usize]
+    TABLE[kind as usize].most_fill
 }
 
 // The most cover of a kind of the table.
@@ -89,5 +120,5 @@ pub fn most_covered(kind: u32) -> u32
     requires { kind < 6 }
     ensures { result ≡ most_covered_of kind }
 {
-    MOST_COVERED[kind as usize]
+    TABLE[kind as usize].most_covered
 }

@@ -10,6 +10,7 @@ use borrow.Author.Tests.{ltb-true, ltb-false, eqb-true, eq-eqb}
 use lib.Dec.{eqb, ltb}
 use lib.ListN.{length, get_or, take, drop, length-drop}
 use lib.Seq.{take-suc, drop-cons, take-add, drop-drop, get_or-take, get_or-drop}
+use Rattle.std.specs.List.{AllWithin, HoldsAt}
 use Rattle.lines.specs.Lines.{has_lf, NextLf}
 
 -- ---- bytes in two parts
@@ -21,10 +22,8 @@ has_parts : (n m : ℕ) (l : List ℕ) → has_lf (take (n + m) l) ≡ (has_lf (
 has_parts n m l = ap has_lf (take-add n m l) ∙ has_both (take n l) (take m (drop n l))
 
 -- one byte more
-pub has_more : (l : List ℕ) (f k : ℕ) → f + k < length l → has_lf (take (k + 1) (drop f l)) ≡ (has_lf (take k (drop f l)) || eqb (get_or l (f + k) 0) 10)
-has_more l f k h =
-    let here : k < length (drop f l) = omega (arith, length-drop f l) in
-    rw (add-one, take-suc (drop f l) k 0, has_both, get_or-drop, or-false)
+pub has_more : (l : List ℕ) (k : ℕ) → k < length l → has_lf (take (k + 1) l) ≡ (has_lf (take k l) || eqb (get_or l k 0) 10)
+has_more l k h = rw (add-one, take-suc l k 0, has_both, or-false)
 
 -- ---- bytes with no LF
 or_right : (a b : Bool) → (a || b) ≡ false → b ≡ false
@@ -60,6 +59,30 @@ clear-join l f i j first second k h g is = go (ltb k i) refl
 pub next-from : (l : List ℕ) (f i r : ℕ) → f ≤ i → Clear l f i → NextLf l i r → NextLf l f r
 next-from l f i r le clear next =
     record { from = omega (arith, next.from); within = next.within; before = clear-join l f i r clear next.before; there = next.there }
+
+-- ---- the bytes from index i on, looked at one by one
+-- n of them without LF
+clear-within : (l : List ℕ) (i n : ℕ) → AllWithin (λ b. b ≡ 10 → ⊥) (drop i l) 0 n → Clear l i (i + n)
+clear-within l i n h j lt ge is =
+    let far : i + (j - i) ≡ j = omega arith in
+    h (j - i) 0 (omega arith) (omega arith) (get_or-drop i l (j - i) 0 ∙ ap (λ (k : ℕ). get_or l k 0) far ∙ is)
+
+-- k is the place of their first LF
+pub next_at : (l : List ℕ) (i k : ℕ) → (k < length (drop i l)) × HoldsAt (λ b. b ≡ 10) (drop i l) k × AllWithin (λ b. b ≡ 10 → ⊥) (drop i l) 0 k
+    → NextLf l i (i + k)
+next_at l i k h =
+    record {
+      from = omega arith;
+      within = omega (arith, h.0, length-drop i l);
+      before = clear-within l i k h.2;
+      there = λ lt. sym (get_or-drop i l k 0) ∙ h.1 0;
+    }
+
+-- they have none
+pub next_none : (l : List ℕ) (i : ℕ) → i ≤ length l → AllWithin (λ b. b ≡ 10 → ⊥) (drop i l) 0 (length (drop i l)) → NextLf l i (length l)
+next_none l i le h =
+    let all : i + length (drop i l) ≡ length l = omega (arith, length-drop i l) in
+    record { from = le; within = omega arith; before = rw all at (clear-within l i (length (drop i l)) h); there = λ lt. absurd (omega arith) }
 
 -- ---- the first LF from index f on is among the n bytes from index i on
 pub record Among (l : List ℕ) (f i n : ℕ) : Type 0 where

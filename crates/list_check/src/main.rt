@@ -7,12 +7,16 @@ ghost use Rattle.std.specs.Prelude.{◌≡◌, ◌≤◌, length};
 ghost use Rattle.reader.specs.Reading.{Held};
 
 use controller::Answer;
-use reader::Reader;
+use lists::ANSWER_WORDS;
+use reader::{Phase, Reader};
 use std::io::Read;
-use step::{Reading, Refusal, Verdict};
+use std::iter::once;
+use step::Refusal;
 
 // The stored input fits.
 const ROOM: usize = 16384;
+
+const CRATE_WORDS: usize = 768;
 
 // One word more than a crate has.
 const MEMORY_WORDS: usize = 769;
@@ -20,9 +24,7 @@ const MEMORY_WORDS: usize = 769;
 // The memory, and behind it the one that is kept.
 const BOTH_WORDS: usize = 1538;
 
-// Lists have at most twenty steps.
-const LIST_STEPS: usize = 20;
-
+// Lists have at most twenty steps, of six words each.
 const LIST_WORDS: usize = 120;
 
 // The list, and behind it the four steps of a second.
@@ -31,6 +33,9 @@ const BOTH_STEPS: usize = 24;
 const BOTH_LISTS: usize = 144;
 
 const ANSWERS_WORDS: usize = 80;
+
+// The words of a step's buffer in a list.
+const STEP_BUFFER: usize = 512;
 
 const BUFFERS_WORDS: usize = 10240;
 
@@ -49,68 +54,30 @@ const PART_LINES: usize = 1923;
 const MARK: u32 = 77;
 
 // ---- words
-// Word i, or 0 past the end.
-fn word(words: &[u32], i: usize) -> u32 {
-    if i < words.len() { words[i] } else { 0 }
+// The first n words, or all where there are fewer.
+fn lent(words: &[u32], n: u32) -> &[u32] {
+    &words[..words.len().min(n as usize)]
 }
 
-fn place(words: &[u32], i: usize) -> usize {
-    word(words, i) as usize
+fn lent_mut(words: &mut [u32], n: u32) -> &mut [u32] {
+    let end = words.len().min(n as usize);
+    &mut words[..end]
 }
 
-fn set(words: &mut [u32], i: usize, x: u32) {
-    if i < words.len() {
-        words[i] = x;
-    }
-}
-
-fn copy(from: &[u32], to: &mut [u32]) {
-    for i in 0..to.len() {
-        set(to, i, word(from, i));
-    }
-}
-
-// Copies a memory's words within the two.
-fn move_memory(words: &mut [u32], from: usize, to: usize)
-    requires { (from ≤ 769) × (to ≤ 769) }
-{
-    for i in 0..MEMORY_WORDS {
-        set(words, to + i, word(words, from + i));
-    }
-}
-
-// 1 where word i is not what it was before, else 0.
-fn change(before: &[u32], words: &[u32], i: usize) -> usize
-    ensures { result ≤ 1 }
-{
-    if word(before, i) != word(words, i) {
-        1
-    } else {
-        0
-    }
+// A copy of the crate.
+fn crate_of(memory: &[u32; BOTH_WORDS]) -> [u32; CRATE_WORDS] {
+    let mut words = [0; CRATE_WORDS];
+    words.copy_from_slice(&memory[..CRATE_WORDS]);
+    words
 }
 
 // How many words are not what they were before.
 fn changes(before: &[u32], words: &[u32]) -> usize {
-    let mut count = 0;
-    for i in 0..words.len() {
-        count += change(before, words, i);
-    }
-    count
+    before.iter().zip(words).filter(|(x, y)| **x != **y).count()
 }
 
-// The lesser of a and b.
-fn least(a: usize, b: usize) -> usize
-    ensures { result ≤ b }
-{
-    if a < b { a } else { b }
-}
-
-fn number(verdict: Verdict) -> u32 {
-    match verdict {
-        Verdict::Fine => 0,
-        Verdict::Refuse(q) => step::refusal_number(q),
-    }
+fn number(verdict: Result<(), Refusal>) -> u32 {
+    verdict.err().map_or(0, step::refusal_number)
 }
 
 // ---- what is printed
@@ -128,77 +95,48 @@ fn show_changes(rt: &impl Print, key: &[u8], before: &[u32], words: &[u32]) {
     let _ = rt.print(changes(before, words) as u64);
 }
 
-fn show_word(rt: &impl Print, words: &[u32], i: usize) {
-    show(rt, b" ", word(words, i));
-}
-
-fn show_words(rt: &impl Print, sign: &[u8], words: &[u32], from: usize, to: usize) {
+fn show_words(rt: &impl Print, sign: &[u8], words: &[u32]) {
     let _ = rt.write_all(sign);
-    for i in from..to {
-        show_word(rt, words, i);
+    for &word in words {
+        show(rt, b" ", word);
     }
 }
 
-// The last of so many words from one on, if there is one.
-fn show_last(rt: &impl Print, words: &[u32], from: usize, count: u32)
-    requires { from ≤ 10240 }
-{
-    if 0 < count {
-        let end = from + count as usize;
-        show_words(rt, b" ..", words, end - 1, end);
+// The first four words of a step's buffer.
+fn show_stored(rt: &impl Print, buffer: &[u32]) {
+    if let Some(stored) = buffer.get(..4) {
+        show_words(rt, b" :", stored);
     }
 }
 
-// The first four words of a step's buffer, where it is of a kind that stores, and of a listing the last that it listed.
-fn show_stored(rt: &impl Print, kind: u32, count: u32, words: &[u32], from: usize)
-    requires { from ≤ 10240 }
-{
-    match kind {
-        5 => {
-            show_words(rt, b" :", words, from, from + 4);
+// The four words of the answer to a step, what it stored, where it is of a kind that stores, and of a listing the last word that it listed.
+fn show_answer(rt: &impl Print, answer: &[u32], buffer: &[u32]) {
+    show_words(rt, b" |", answer);
+    match *answer {
+        [5, ..] => {
+            show_stored(rt, buffer);
         }
-        7 => {
-            show_words(rt, b" :", words, from, from + 4);
-            show_last(rt, words, from, count);
+        [7, count, ..] => {
+            show_stored(rt, buffer);
+            if let Some(&word) = lent(buffer, count).last() {
+                show_words(rt, b" ..", &[word]);
+            }
         }
         _ => {}
     }
 }
 
-// The answer to step k, and what it stored.
-fn show_answer(rt: &impl Print, answers: &[u32], buffers: &[u32], k: usize) {
-    if k < LIST_STEPS {
-        let at = 4 * k;
-        show_words(rt, b" |", answers, at, at + 4);
-        show_stored(
-            rt,
-            word(answers, at),
-            word(answers, at + 1),
-            buffers,
-            512 * k,
-        );
-    }
-}
-
 fn show_answers(rt: &impl Print, answers: &[u32], buffers: &[u32], count: usize) {
-    for k in 0..count {
-        show_answer(rt, answers, buffers, k);
+    let answers = answers.chunks(ANSWER_WORDS);
+    let buffers = buffers.chunks(STEP_BUFFER);
+    for (answer, buffer) in answers.zip(buffers).take(count) {
+        show_answer(rt, answer, buffer);
     }
 }
 
-// How many steps of a list have an answer, where the verdict on the run is n.
-fn answered(n: u32, count: usize) -> usize {
-    if n == 0 { count } else { 0 }
-}
-
-fn show_verdict(rt: &impl Print, case: u32, n: u32) {
+fn show_verdict(rt: &impl Print, case: u32, verdict: Result<(), Refusal>) {
     show(rt, b"case=", case);
-    show(rt, b" verdict=", n);
-}
-
-fn show_run(rt: &impl Print, case: u32, n: u32, count: usize, answers: &[u32], buffers: &[u32]) {
-    show_verdict(rt, case, n);
-    show_answers(rt, answers, buffers, answered(n, count));
+    show(rt, b" verdict=", number(verdict));
 }
 
 fn show_marks(rt: &impl Print, marks: &[u32], answers: &[u32], buffers: &[u32]) {
@@ -207,66 +145,42 @@ fn show_marks(rt: &impl Print, marks: &[u32], answers: &[u32], buffers: &[u32]) 
 }
 
 // The verdict on one of two lists, and its four answers.
-fn show_half(rt: &impl Print, key: &[u8], verdict: Verdict, answers: &[u32], buffers: &[u32]) {
+fn show_half(
+    rt: &impl Print,
+    key: &[u8],
+    verdict: Result<(), Refusal>,
+    answers: &[u32],
+    buffers: &[u32],
+) {
     show(rt, key, number(verdict));
     show_answers(rt, answers, buffers, 4);
 }
 
 // ---- the calls
-// A list on the first `long` words of the memory, lent the first s words of steps, a of answers and b of buffers.
-fn run_lent(
-    memory: &mut [u32],
-    long: usize,
-    count: usize,
-    steps: &[u32],
-    s: usize,
-    answers: &mut [u32],
-    a: usize,
-    buffers: &mut [u32],
-    b: usize,
-) -> Verdict {
-    let long = least(long, memory.len());
-    let s = least(s, steps.len());
-    let a = least(a, answers.len());
-    let b = least(b, buffers.len());
-    rehearsal::run_list(
-        &mut memory[..long],
-        count,
-        &steps[..s],
-        &mut answers[..a],
-        &mut buffers[..b],
-    )
-}
-
-// The verdict on it, its answers, and how many words it changed.
+// The verdict on a list with words lent, its answers, and how many words it changed.
 fn run(
     rt: &impl Print,
-    case: u32,
-    count: usize,
-    memory: &mut [u32],
-    long: usize,
-    steps: &[u32],
-    s: usize,
-    a: usize,
-    b: usize,
+    numbers: &[u32; 8],
+    memory: &mut [u32; BOTH_WORDS],
+    steps: &[u32; BOTH_LISTS],
 ) {
+    let [_, case, low, long, s, a, b, high] = *numbers;
+    let count = high as usize * 4294967296 + low as usize;
     let marks = [MARK; BUFFERS_WORDS];
-    let mut before = [0u32; BOTH_WORDS];
-    copy(memory, &mut before);
+    let before = *memory;
     let mut answers = [MARK; ANSWERS_WORDS];
     let mut buffers = marks;
-    let verdict = run_lent(
-        memory,
-        long,
+    let verdict = rehearsal::run_list(
+        lent_mut(memory, long),
         count,
-        steps,
-        s,
-        &mut answers,
-        a,
-        &mut buffers,
-        b,
+        lent(steps, s),
+        lent_mut(&mut answers, a),
+        lent_mut(&mut buffers, b),
     );
-    show_run(rt, case, number(verdict), count, &answers, &buffers);
+    show_verdict(rt, case, verdict);
+    if verdict.is_ok() {
+        show_answers(rt, &answers, &buffers, count);
+    }
     show_changes(rt, b" memory=", &before, memory);
     show_marks(rt, &marks, &answers, &buffers);
     end_line(rt);
@@ -274,48 +188,33 @@ fn run(
 
 // The step of a line by `run_step`, or the line by `run_line`.
 fn call(as_step: bool, memory: &mut [u32], line: &[u8], buffer: &mut [u32]) -> Answer {
-    if as_step {
-        if let Reading::Good(step) = runfile::read_line(line) {
-            return rehearsal::run_step(memory, step, buffer);
-        }
+    match runfile::read_line(line) {
+        Ok(step) if as_step => rehearsal::run_step(memory, step, buffer),
+        _ => rehearsal::run_line(memory, line, buffer),
     }
-    rehearsal::run_line(memory, line, buffer)
-}
-
-fn call_lent(
-    as_step: bool,
-    memory: &mut [u32],
-    line: &[u8],
-    buffer: &mut [u32],
-    lent: usize,
-) -> Answer {
-    let lent = least(lent, buffer.len());
-    call(as_step, memory, line, &mut buffer[..lent])
 }
 
 // The four words of an answer and what follows them.
 fn show_one(rt: &impl Print, case: u32, answer: Answer, buffer: &[u32]) {
-    let mut words = [0u32; 4];
+    let mut words = [0; ANSWER_WORDS];
     lists::write_answer(&mut words, answer);
     show(rt, b"case=", case);
-    show_answer(rt, &words, buffer, 0);
+    show_answer(rt, &words, buffer);
 }
 
-// The answer of a step or a line with the first `lent` words of a buffer full of y, and how many words it changed.
+// The answer of a step or a line with the first n words of a buffer full of y, and how many words it changed.
 fn one(
     rt: &impl Print,
-    case: u32,
     as_step: bool,
-    memory: &[u32],
+    numbers: &[u32; 8],
+    memory: &[u32; BOTH_WORDS],
     line: &[u8],
-    lent: usize,
-    y: u32,
 ) {
-    let mut m = [0u32; 768];
-    copy(memory, &mut m);
+    let [_, case, n, y, ..] = *numbers;
+    let mut m = crate_of(memory);
     let full = [y; ONE_BUFFER];
     let mut buffer = full;
-    let answer = call_lent(as_step, &mut m, line, &mut buffer, lent);
+    let answer = call(as_step, &mut m, line, lent_mut(&mut buffer, n));
     show_one(rt, case, answer, &buffer);
     show_changes(rt, b" memory=", memory, &m);
     show_changes(rt, b" buffer=", &full, &buffer);
@@ -323,13 +222,9 @@ fn one(
 }
 
 // The transfer of a step's words by the trigger processor's call.
-fn at_processor(memory: &mut [u32], words: &[u32], buffer: &mut [u32]) -> Answer {
-    let n = word(words, 1);
-    let a = word(words, 2);
-    let f = word(words, 3);
-    let p = word(words, 4);
-    let q = word(words, 5);
-    match word(words, 0) {
+fn at_processor(memory: &mut [u32], steps: &[u32; BOTH_LISTS], buffer: &mut [u32]) -> Answer {
+    let [kind, n, a, f, p, q, ..] = *steps;
+    match kind {
         17 => rehearsal::processor_scan(memory, n, a, f, p, q, buffer),
         18 => rehearsal::processor_repeat(memory, n, a, f, p, q, buffer),
         _ => rehearsal::processor_stop(memory, n, a, f, p, buffer),
@@ -337,98 +232,91 @@ fn at_processor(memory: &mut [u32], words: &[u32], buffer: &mut [u32]) -> Answer
 }
 
 // The first step of a list by `run_step`, or by the trigger processor's call.
-fn first_step(as_step: bool, memory: &mut [u32], steps: &[u32], buffer: &mut [u32]) -> Answer {
+fn first_step(
+    as_step: bool,
+    memory: &mut [u32],
+    steps: &[u32; BOTH_LISTS],
+    buffer: &mut [u32],
+) -> Answer {
     if !as_step {
         return at_processor(memory, steps, buffer);
     }
-    if 6 <= steps.len() {
-        if let Reading::Good(step) = lists::read_step(&steps[..6]) {
-            return rehearsal::run_step(memory, step, buffer);
-        }
+    match lists::read_step(&steps[..6]) {
+        Ok(step) => rehearsal::run_step(memory, step, buffer),
+        Err(refusal) => Answer::Refused(refusal),
     }
-    Answer::Refused(Refusal::Garbled)
 }
 
-fn first_lent(
-    as_step: bool,
-    memory: &mut [u32],
-    steps: &[u32],
-    buffer: &mut [u32],
-    lent: usize,
-) -> Answer {
-    let lent = least(lent, buffer.len());
-    first_step(as_step, memory, steps, &mut buffer[..lent])
-}
-
+// The first step of the list with n words lent: its answer, the first four registers of station 6, and how many words it changed.
 // Numbers 3 to 6 are the first four words of the buffer.
-fn fill(buffer: &mut [u32], numbers: &[u32]) {
-    set(buffer, 0, word(numbers, 3));
-    set(buffer, 1, word(numbers, 4));
-    set(buffer, 2, word(numbers, 5));
-    set(buffer, 3, word(numbers, 6));
-}
-
-// The first step of the list with words lent: its answer, the first four registers of station 6, and how many words it changed.
-fn lend(rt: &impl Print, case: u32, as_step: bool, memory: &[u32], steps: &[u32], numbers: &[u32]) {
-    let mut m = [0u32; 768];
-    copy(memory, &mut m);
+fn lend(
+    rt: &impl Print,
+    as_step: bool,
+    numbers: &[u32; 8],
+    memory: &[u32; BOTH_WORDS],
+    steps: &[u32; BOTH_LISTS],
+) {
+    let [_, case, n, ..] = *numbers;
+    let mut m = crate_of(memory);
     let mut full = [MARK; LONG_BUFFER];
-    fill(&mut full, numbers);
+    full[..4].copy_from_slice(&numbers[3..7]);
     let mut buffer = full;
-    let lent = place(numbers, 2);
-    let answer = first_lent(as_step, &mut m, steps, &mut buffer, lent);
+    let answer = first_step(as_step, &mut m, steps, lent_mut(&mut buffer, n));
     show_one(rt, case, answer, &buffer);
-    show_words(rt, b" ;", &m, 208, 212);
+    show_words(rt, b" ;", &m[208..212]);
     show_changes(rt, b" memory=", memory, &m);
     show_changes(rt, b" buffer=", &full, &buffer);
     end_line(rt);
 }
 
 // Two lists of four steps on equal crates, but for I, which is x in the second.
-fn pair(rt: &impl Print, case: u32, memory: &[u32], x: u32, steps: &[u32], second: &[u32]) {
-    let mut m1 = [0u32; 768];
-    copy(memory, &mut m1);
+fn two_lists(
+    rt: &impl Print,
+    case: u32,
+    memory: &[u32; BOTH_WORDS],
+    x: u32,
+    steps: &[u32; BOTH_LISTS],
+) {
+    let mut m1 = crate_of(memory);
     let mut m2 = m1;
-    set(&mut m2, 0, x);
+    m2[0] = x;
     let mut a1 = [MARK; 16];
     let mut a2 = [MARK; 16];
     let mut b1 = [MARK; 2048];
     let mut b2 = [MARK; 2048];
+    let second = &steps[LIST_WORDS..];
     let pair = rehearsal::run_pair(
         &mut m1, 4, steps, &mut a1, &mut b1, &mut m2, 4, second, &mut a2, &mut b2,
     );
-    let v1 = pair.first;
-    let v2 = pair.second;
     show(rt, b"case=", case);
-    show_half(rt, b" first=", v1, &a1, &b1);
-    show_half(rt, b" second=", v2, &a2, &b2);
+    show_half(rt, b" first=", pair.first, &a1, &b1);
+    show_half(rt, b" second=", pair.second, &a2, &b2);
     show_changes(rt, b" differ=", &m1, &m2);
     end_line(rt);
 }
 
-fn two_lists(rt: &impl Print, case: u32, memory: &[u32], x: u32, steps: &[u32]) {
-    if LIST_WORDS <= steps.len() {
-        let second = &steps[LIST_WORDS..];
-        pair(rt, case, memory, x, steps, second);
-    }
-}
-
-// Words 0 to 7 of station n and of the two stations to its right; nothing where n is 0.
+// Words 0 to 7 of station n and of the two stations to its right, 0 where there is no such station; nothing where n is 0.
 fn show_stations(rt: &impl Print, memory: &[u32], n: u32) {
     if 0 < n {
         let at = 32 * n as usize;
-        show_words(rt, b" ;", memory, at, at + 8);
-        show_words(rt, b" ;", memory, at + 32, at + 40);
-        show_words(rt, b" ;", memory, at + 64, at + 72);
+        for first in [at, at + 32, at + 64] {
+            show_words(rt, b" ;", memory.get(first..first + 8).unwrap_or(&[0; 8]));
+        }
     }
 }
 
 // The verdict on a crate line after one for station `previous`, what it leaves in station n and to its right, and how many words it changed.
-fn module(rt: &impl Print, case: u32, memory: &[u32], previous: u32, n: u32, line: &[u8]) {
-    let mut m = [0u32; 768];
-    copy(memory, &mut m);
+fn module(
+    rt: &impl Print,
+    case: u32,
+    memory: &[u32; BOTH_WORDS],
+    previous: u32,
+    n: u32,
+    line: &[u8],
+) {
+    let mut m = crate_of(memory);
     let verdict = rehearsal::crate_line(&mut m, previous, line);
-    show_verdict(rt, case, number(verdict));
+    show_verdict(rt, case, verdict);
     show_stations(rt, &m, n);
     show_changes(rt, b" memory=", memory, &m);
     end_line(rt);
@@ -439,13 +327,7 @@ fn module(rt: &impl Print, case: u32, memory: &[u32], previous: u32, n: u32, lin
 fn anew(s: Reader) -> Reader
     ensures { (result.fill ≡ s.fill) × (result.at ≡ 0) }
 {
-    Reader {
-        fill: s.fill,
-        number: s.number,
-        phase: s.phase,
-        previous: s.previous,
-        at: 0,
-    }
+    Reader { at: 0, ..s }
 }
 
 // Takes a part of a run file. What was printed of the parts before it is dropped.
@@ -453,8 +335,7 @@ fn take_part(text: &[u8], s: Reader, line: &mut [u8], memory: &mut [u32], out: &
     requires { Held s line.old memory.old out.old }
     ensures { Held result line.new memory.new out.new }
 {
-    let p = reader::chunk_lines(text, anew(s), line, memory, out);
-    p.reader
+    reader::chunk_lines(text, anew(s), line, memory, out).reader
 }
 
 // Takes the same part again and again.
@@ -463,7 +344,7 @@ fn take_parts(text: &[u8], s: Reader, line: &mut [u8], memory: &mut [u32], out: 
     ensures { Held result line.new memory.new out.new }
 {
     let mut r = s;
-    for i in 0..PARTS {
+    for _ in 0..PARTS {
         r = take_part(text, r, line, memory, out);
     }
     r
@@ -478,7 +359,7 @@ fn long_run(rt: &impl Print, case: u32) {
     let start = Reader {
         fill: 0,
         number: 0,
-        phase: 1,
+        phase: Phase::RunFile,
         previous: 0,
         at: 0,
     };
@@ -490,74 +371,49 @@ fn long_run(rt: &impl Print, case: u32) {
         &mut memory,
         &mut out,
     );
-    let at = past.at;
     show(rt, b"case=", case);
     end_line(rt);
-    let _ = rt.write_all(&out[..at]);
+    let _ = rt.write_all(&out[..past.at]);
     let last = reader::finish(anew(past), &line, &mut memory, &mut out);
-    let end = last.at;
-    let _ = rt.write_all(&out[..end]);
+    let _ = rt.write_all(&out[..last.at]);
 }
 
 // ---- the lines of standard input
-// The count of steps: its lower 32 bits stand in number 2, the upper in number 7.
-fn count_of(numbers: &[u32]) -> usize {
-    word(numbers, 7) as usize * 4294967296 + word(numbers, 2) as usize
-}
-
 // Status, mask, head and fill of the buffer memory, and its sixteen words.
-fn view(rt: &impl Print, case: u32, memory: &[u32]) {
+fn view(rt: &impl Print, case: u32, memory: &[u32; BOTH_WORDS]) {
     show(rt, b"case=", case);
-    show_words(rt, b" ;", memory, 130, 134);
-    show_words(rt, b" ;", memory, 144, 160);
+    show_words(rt, b" ;", &memory[130..134]);
+    show_words(rt, b" ;", &memory[144..160]);
     end_line(rt);
 }
 
 fn do_call(
     rt: &impl Print,
     op: u8,
-    numbers: &[u32],
+    numbers: &[u32; 8],
     text: &[u8],
-    memory: &mut [u32],
-    steps: &[u32],
+    memory: &mut [u32; BOTH_WORDS],
+    steps: &[u32; BOTH_LISTS],
 ) {
-    let case = word(numbers, 1);
+    let [_, case, x, n, ..] = *numbers;
     match op {
         b'L' => {
-            run(
-                rt,
-                case,
-                count_of(numbers),
-                memory,
-                place(numbers, 3),
-                steps,
-                place(numbers, 4),
-                place(numbers, 5),
-                place(numbers, 6),
-            );
+            run(rt, numbers, memory, steps);
         }
         b'V' => {
             view(rt, case, memory);
         }
         b'O' | b'R' => {
-            one(
-                rt,
-                case,
-                op == b'O',
-                memory,
-                text,
-                place(numbers, 2),
-                word(numbers, 3),
-            );
+            one(rt, op == b'O', numbers, memory, text);
         }
         b'B' | b'T' => {
-            lend(rt, case, op == b'B', memory, steps, numbers);
+            lend(rt, op == b'B', numbers, memory, steps);
         }
         b'P' => {
-            two_lists(rt, case, memory, word(numbers, 2), steps);
+            two_lists(rt, case, memory, x, steps);
         }
         b'C' => {
-            module(rt, case, memory, word(numbers, 2), word(numbers, 3), text);
+            module(rt, case, memory, x, n, text);
         }
         b'N' => {
             long_run(rt, case);
@@ -566,99 +422,81 @@ fn do_call(
     }
 }
 
-// Six numbers, from number 2 on, as the words of step k, which number 1 says.
-fn put(steps: &mut [u32], numbers: &[u32]) {
-    let k = place(numbers, 1);
-    if k < BOTH_STEPS {
-        for j in 0..6 {
-            set(steps, 6 * k + j, word(numbers, j + 2));
-        }
-    }
-}
-
-fn prepare(op: u8, numbers: &[u32], memory: &mut [u32], steps: &mut [u32]) {
+fn prepare(
+    op: u8,
+    numbers: &[u32; 8],
+    memory: &mut [u32; BOTH_WORDS],
+    steps: &mut [u32; BOTH_LISTS],
+) {
+    let [_, i, x, ..] = *numbers;
+    let i = i as usize;
     match op {
         b'w' => {
-            set(memory, place(numbers, 1), word(numbers, 2));
+            if let Some(word) = memory.get_mut(i) {
+                *word = x;
+            }
         }
+        // six numbers, from number 2 on, as the words of step i
         b's' => {
-            put(steps, numbers);
+            if i < BOTH_STEPS {
+                steps[6 * i..6 * i + 6].copy_from_slice(&numbers[2..]);
+            }
         }
         b'k' => {
-            move_memory(memory, 0, MEMORY_WORDS);
+            memory.copy_within(..MEMORY_WORDS, MEMORY_WORDS);
         }
         b'g' => {
-            move_memory(memory, MEMORY_WORDS, 0);
+            memory.copy_within(MEMORY_WORDS.., 0);
         }
         _ => {}
     }
 }
 
-// 1 at a space, else 0.
-fn space(byte: u8) -> usize
-    ensures { result ≤ 1 }
-{
-    if byte == b' ' { 1 } else { 0 }
-}
-
-// Appends a digit to number k.
-fn push_digit(numbers: &mut [u32], k: usize, byte: u8) {
-    if b'0' <= byte {
-        if byte <= b'9' {
-            let wide = word(numbers, k) as u64 * 10 + (byte - 48) as u64;
-            if wide <= 4294967295 {
-                set(numbers, k, wide as u32);
-            }
+// A number with one more digit; as it was where the byte is none, or where it gets too large.
+fn push_digit(number: u32, byte: &u8) -> u32 {
+    match *byte {
+        b'0'..=b'9' => {
+            let wide = number as u64 * 10 + (*byte - b'0') as u64;
+            u32::try_from(wide).unwrap_or(number)
         }
+        _ => number,
     }
 }
 
 // The numbers of a line, with spaces between.
-fn read_numbers(line: &[u8], numbers: &mut [u32]) {
-    let mut k = 0;
-    for i in 0..line.len() {
-        let byte = line[i];
-        k += space(byte);
-        push_digit(numbers, k, byte);
+fn read_numbers(line: &[u8]) -> [u32; 8] {
+    let mut numbers = [0; 8];
+    for (number, digits) in numbers.iter_mut().zip(line.split(|b| *b == b' ')) {
+        *number = digits.iter().fold(0, push_digit);
     }
+    numbers
 }
 
-fn first(line: &[u8]) -> u8 {
-    if 0 < line.len() { line[0] } else { 0 }
-}
-
-fn do_line(rt: &impl Print, line: &[u8], text: &[u8], memory: &mut [u32], steps: &mut [u32]) {
-    let op = first(line);
-    let mut numbers = [0u32; 8];
-    read_numbers(line, &mut numbers);
-    prepare(op, &numbers, memory, steps);
-    do_call(rt, op, &numbers, text, memory, steps);
-}
-
-// Where the line that begins at start ends: at the next LF, or at the end.
-fn line_end(input: &[u8], start: usize) -> usize
-    requires { start ≤ length input.now }
-    ensures { (start ≤ result) × (result ≤ length input.now) }
-{
-    let mut i = start;
-    while i < input.len() {
-        if input[i] == b'\n' {
-            return i;
-        }
-        i += 1;
+fn do_line(
+    rt: &impl Print,
+    line: &[u8],
+    text: &[u8],
+    memory: &mut [u32; BOTH_WORDS],
+    steps: &mut [u32; BOTH_LISTS],
+) {
+    if let Some(&op) = line.first() {
+        let numbers = read_numbers(line);
+        prepare(op, &numbers, memory, steps);
+        do_call(rt, op, &numbers, text, memory, steps);
     }
-    i
 }
 
 // Each line with the one after it, which is the text of a step, a line or a module where a call takes one.
-fn do_lines(rt: &impl Print, input: &[u8], memory: &mut [u32], steps: &mut [u32]) {
-    let mut start = 0;
-    while start < input.len() {
-        let end = line_end(input, start);
-        let next = least(end + 1, input.len());
-        let last = line_end(input, next);
-        do_line(rt, &input[start..end], &input[next..last], memory, steps);
-        start = end + 1;
+fn do_lines(
+    rt: &impl Print,
+    input: &[u8],
+    memory: &mut [u32; BOTH_WORDS],
+    steps: &mut [u32; BOTH_LISTS],
+) {
+    let lines = input.split(|b| *b == b'\n');
+    let texts = input.split(|b| *b == b'\n').skip(1);
+    for (line, text) in lines.zip(texts.chain(once(&b""[..]))) {
+        do_line(rt, line, text, memory, steps);
     }
 }
 
@@ -667,15 +505,12 @@ fn read_full(input: &mut impl Read, buf: &mut [u8]) -> usize
     ensures { result ≤ length buf.new }
 {
     let mut done = 0;
+    // A `while`: a read gives as many bytes as there are.
     while done < buf.len() {
-        let n = match input.read(&mut buf[done..]) {
-            Ok(n) => n,
-            Err(_) => 0,
-        };
-        if n == 0 {
-            return done;
+        match input.read(&mut buf[done..]) {
+            Ok(0) | Err(_) => break,
+            Ok(n) => done += n,
         }
-        done += n;
     }
     done
 }
@@ -683,7 +518,7 @@ fn read_full(input: &mut impl Read, buf: &mut [u8]) -> usize
 fn main(rt: HostRuntime) {
     let mut input = [0u8; ROOM];
     let count = read_full(&mut rt.reader(), &mut input);
-    let mut memory = [0u32; BOTH_WORDS];
-    let mut steps = [0u32; BOTH_LISTS];
+    let mut memory = [0; BOTH_WORDS];
+    let mut steps = [0; BOTH_LISTS];
     do_lines(&rt, &input[..count], &mut memory, &mut steps);
 }

@@ -10,12 +10,12 @@ use lib.ListN.{length, take, drop, length-append}
 use lib.Seq.{take_at, length-take-le}
 use Rattle.lines.specs.Cutting.{Cutting, opened, ended}
 use Rattle.lines.proofs.CuttingLaws.{states, open-still, shut-over}
-use Rattle.step.specs.declared.Reading.{Reading}
 use Rattle.runfile.specs.Read.{read_line}
 use Rattle.lists.proofs.Parts.{part-back}
 use Rattle.listfile.specs.ListWords.{line_words}
 use Rattle.listfile.specs.Listing.{storing}
 use Rattle.listfile.proofs.WordLaws.{line-long}
+use Rattle.step.specs.Results.{Reading}
 
 -- lines are taken up to the last
 pub taken : (s : Cutting (List ℕ)) → s.number < 99999 → opened storing s ≡ true

@@ -9,7 +9,6 @@ use lib.Seq.{length-take-le}
 use Rattle.lines.specs.Lines.{lines_of}
 use Rattle.lines.specs.Cutting.{Cutting, fresh, feed, closed, after_lines, feed_parts, join}
 use Rattle.lines.proofs.Whole.{file-law, feed-parts}
-use Rattle.step.specs.declared.Reading.{Reading}
 use Rattle.runfile.specs.Read.{read_line}
 use Rattle.runfile.proofs.Cut.{cut_line}
 use Rattle.lists.specs.Words.{reading_of, part}
@@ -17,6 +16,7 @@ use Rattle.listfile.specs.ListWords.{line_words, list_words, file_words}
 use Rattle.listfile.specs.Listing.{storing, state_of, Held}
 use Rattle.listfile.specs.declared.ListReader.{ListReader}
 use Rattle.listfile.proofs.WordLaws.{list_count, list-step, part-front}
+use Rattle.step.specs.Results.{Reading}
 
 -- of a line the first 81 bytes say as much as the whole
 short : (k : ℕ) (l w : List ℕ) → storing.line k (take 81 l) w ≡ storing.line k l w

@@ -8,30 +8,30 @@ use lib.ListN.{length, get_or, take, drop, length-append, length-drop, take-appe
 use lib.Seq.{take_at, drop-append-add, take-append-le, drop-append-le, length-take-le}
 use Rattle.step.specs.declared.Refusal.{Refusal}
 use Rattle.step.specs.declared.Refusal.TheVariants.{Garbled}
-use Rattle.step.specs.declared.Reading.{Reading}
-use Rattle.step.specs.declared.Reading.TheVariants.{Good, Bad}
 use Rattle.runfile.specs.Read.{read_line}
 use Rattle.runfile.proofs.RunLines.{reads_of}
 use Rattle.lists.specs.Words.{kinds_of, reading_of, part}
 use Rattle.lists.proofs.StepLaws.{words-six, step_back}
 use Rattle.lines.specs.Lines.{lines_of}
 use Rattle.listfile.specs.ListWords.{line_words, list_words, file_words}
+use Rattle.std.specs.Prelude.{Ok, Err}
+use Rattle.step.specs.Results.{Reading}
 
 -- ---- one line
 -- has six words
 pub line-long : (r : Reading) → length (line_words r) ≡ 6
 unfolding line_words
-line-long (Good s) = words-six s
-line-long (Bad q) = refl
+line-long (Ok s) = words-six s
+line-long (Err q) = refl
 
 -- six zeros are garbled
-pub garbled-back : (q : Refusal) → reading_of (line_words (Bad q)) ≡ Bad Garbled
+pub garbled-back : (q : Refusal) → reading_of (line_words (Err q)) ≡ Err Garbled
 unfolding reading_of kinds_of line_words
 garbled-back q = refl
 
 -- a line is refused as garbled only
-pub line-garbled : (l : List ℕ) (q : Refusal) → read_line l ≡ Bad q → q ≡ Garbled
-line-garbled l q e = (reads_of l (Bad q) (sym e)).0
+pub line-garbled : (l : List ℕ) (q : Refusal) → read_line l ≡ Err q → q ≡ Garbled
+line-garbled l q e = (reads_of l (Err q) (sym e)).0
 
 -- so the words of a line are read back as the line
 pub line-back : (l : List ℕ) → reading_of (line_words (read_line l)) ≡ read_line l
@@ -39,8 +39,8 @@ unfolding line_words
 line-back l = go (read_line l) refl
   where
     go : (r : Reading) → read_line l ≡ r → reading_of (line_words r) ≡ r
-    go (Good s) e = step_back s
-    go (Bad q) e = garbled-back q ∙ ap Bad (sym (line-garbled l q e))
+    go (Ok s) e = step_back s
+    go (Err q) e = garbled-back q ∙ ap Err (sym (line-garbled l q e))
 
 -- ---- one step after the other
 words_count : (ls : List (List ℕ)) → length (list_words ls) ≡ 6 * length ls

@@ -1,15 +1,14 @@
 -- A run file as a list of steps in words, six words a step.
-use Rattle.std.specs.Prelude.{ℕ, List, [], ◌∷◌, ◌++◌}
-use Rattle.step.specs.declared.Reading.{Reading}
-use Rattle.step.specs.declared.Reading.TheVariants.{Good, Bad}
+use Rattle.std.specs.Prelude.{ℕ, List, [], ◌∷◌, ◌++◌, Ok, Err}
 use Rattle.runfile.specs.Read.{read_line}
 use Rattle.lists.specs.Words.{step_words}
 use Rattle.lines.specs.Lines.{lines_of}
+use Rattle.step.specs.Results.{Reading}
 
 -- the six words of a line: those of its step, and of a line that is no step six times 0
 unfoldable pub line_words : Reading → List ℕ
-line_words (Good s) = step_words s
-line_words (Bad q) = 0 ∷ 0 ∷ 0 ∷ 0 ∷ 0 ∷ 0 ∷ []
+line_words (Ok s) = step_words s
+line_words (Err q) = 0 ∷ 0 ∷ 0 ∷ 0 ∷ 0 ∷ 0 ∷ []
 
 -- the words of lines, one line after the other
 unfoldable pub list_words : List (List ℕ) → List ℕ

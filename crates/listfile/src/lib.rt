@@ -9,7 +9,7 @@ ghost use Rattle.listfile.specs.Listing.{storing, state_of, Held};
 
 use lines::find_lf;
 use lists::STEP_WORDS;
-use step::Reading;
+use step::{Refusal, Step};
 
 // Where the reading stands.
 #[derive(Clone, Copy)]
@@ -27,13 +27,13 @@ const LINES: usize = lines::LINES as usize;
 pub const LIST_WORDS: usize = LINES * STEP_WORDS;
 
 // The reading of a line as six words.
-fn write_reading(out: &mut [u32], reading: Reading)
+fn write_reading(out: &mut [u32], reading: Result<Step, Refusal>)
     requires { length out.old ≡ 6 }
     ensures { out.new ≡ line_words reading }
 {
     match reading {
-        Reading::Good(step) => lists::write_step(out, step),
-        Reading::Bad(_) => lists::put_six(out, 0, 0, 0, 0, 0, 0),
+        Ok(step) => lists::write_step(out, step),
+        Err(_) => out.fill(0),
     }
 }
 
@@ -42,13 +42,11 @@ fn end_line(s: ListReader, line: &[u8], words: &mut [u32]) -> ListReader
     requires held { Held s line.now words.old }
     requires number_bound { s.number < 99999 }
     ensures words_after { state_of result line.now words.new ≡ ended storing (state_of s line.now words.old) }
-    ensures held_2 { Held result line.now words.new }
+    ensures stays_held { Held result line.now words.new }
 {
-    let fill = s.fill;
-    let reading = runfile::read_line(&line[..fill]);
+    let reading = runfile::read_line(&line[..s.fill]);
     let at = STEP_WORDS * s.number;
-    let to = at + STEP_WORDS;
-    write_reading(&mut words[at..to], reading);
+    write_reading(&mut words[at..at + STEP_WORDS], reading);
     ListReader {
         fill: 0,
         number: s.number + 1,
@@ -57,17 +55,13 @@ fn end_line(s: ListReader, line: &[u8], words: &mut [u32]) -> ListReader
 
 // Takes bytes of a line, none of which is LF.
 fn take_span(s: ListReader, span: &[u8], line: &mut [u8]) -> ListReader
-    requires fill_bound { (s.fill ≤ 81) × (length line.old ≡ 81) × (s.number < 99999) }
+    requires bounds { (s.fill ≤ 81) × (length line.old ≡ 81) × (s.number < 99999) }
     requires no_lf { NoLf span.now }
-    ensures by_index { (w : List ℕ) → state_of result line.new w ≡ feed storing (state_of s line.old w) span.now }
-    ensures fill_bound_2 { (result.fill ≤ 81) × (result.number ≡ s.number) }
+    ensures state { (w : List ℕ) → state_of result line.new w ≡ feed storing (state_of s line.old w) span.now }
+    ensures counts { (result.fill ≤ 81) × (result.number ≡ s.number) }
 {
-    let fill = s.fill;
-    let next = lines::keep(line, fill, span);
-    ListReader {
-        fill: next,
-        number: s.number,
-    }
+    let fill = lines::keep(line, s.fill, span);
+    ListReader { fill, ..s }
 }
 
 // Takes a part of a run file, as far as lines are read.
@@ -78,10 +72,8 @@ pub fn take_text(text: &[u8], s: ListReader, line: &mut [u8], words: &mut [u32])
 {
     let mut r = s;
     let mut i = 0;
-    while i < text.len() {
-        if r.number >= LINES {
-            return r;
-        }
+    // A `while`: a turn goes on behind the line that it took.
+    while i < text.len() && r.number < LINES {
         let e = find_lf(text, i);
         r = take_span(r, &text[i..e], line);
         if e == text.len() {
@@ -99,10 +91,7 @@ pub fn finish(s: ListReader, line: &[u8], words: &mut [u32]) -> ListReader
     ensures words_after { state_of result line.now words.new ≡ closed storing (state_of s line.now words.old) }
     ensures held { Held result line.now words.new }
 {
-    if s.number >= LINES {
-        return s;
-    }
-    if s.fill == 0 {
+    if s.number >= LINES || s.fill == 0 {
         return s;
     }
     end_line(s, line, words)

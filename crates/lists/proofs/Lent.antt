@@ -9,18 +9,18 @@ use borrow.Rule.Slice.PartMut.{mid_of, put_mid}
 use Rattle.kinds.proofs.TestLaws.{Rest, case-else}
 use Rattle.dataway.specs.Crate.{FitCrate}
 use Rattle.step.specs.declared.Refusal.TheVariants.{Garbled}
-use Rattle.step.specs.declared.Reading.{Reading}
-use Rattle.step.specs.declared.Reading.TheVariants.{Bad}
 use Rattle.controller.specs.Steps.{order, Performed, performed, done_of, step_of, leaves, gives}
 use Rattle.controller.specs.declared.Answer.{Answer}
 use Rattle.controller.proofs.StepLaws.{step-done}
 use Rattle.lists.specs.Words.{kinds_of, reading_of, with_part, order_at}
 use Rattle.lists.proofs.Parts.{part-lent, part-back}
+use Rattle.std.specs.Prelude.{Err}
+use Rattle.step.specs.Results.{Reading}
 
 -- a number that is no kind of step is garbled
-pub reading-else : (w : List ℕ) → Rest Unit (get_or w 0 0) (kinds_of w) → Bad Garbled ≡ reading_of w
+pub reading-else : (w : List ℕ) → Rest Unit (get_or w 0 0) (kinds_of w) → Err Garbled ≡ reading_of w
 unfolding reading_of
-reading-else w h = sym (case-else Unit (get_or w 0 0) (kinds_of w) (Bad Garbled) h).1
+reading-else w h = sym (case-else Unit (get_or w 0 0) (kinds_of w) (Err Garbled) h).1
 
 -- four words stored
 pub four-sets : (xs : List ℕ) (t x y z : ℕ) → length xs ≡ 4 → set (set (set (set xs 0 t) 1 x) 2 y) 3 z ≡ t ∷ x ∷ y ∷ z ∷ []

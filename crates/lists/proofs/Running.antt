@@ -12,10 +12,10 @@ use Rattle.dataway.specs.Crate.{FitCrate}
 use Rattle.controller.specs.Answers.{answer_words}
 use Rattle.controller.specs.Steps.{Order, Out, leaves, gives}
 use Rattle.controller.specs.declared.Answer.{Answer}
-use Rattle.step.specs.declared.Verdict.TheVariants.{Fine}
 use Rattle.lists.specs.Words.{reading_of, part, with_part, order_at, orders_of}
 use Rattle.lists.specs.Runs.{joined, answer_of, buffer_of, ran_of}
 use Rattle.lists.proofs.Parts.{part-lent, part-long, part-back, next-part, part-done}
+use Rattle.std.specs.Prelude.{Ok}
 
 -- ---- one more step at a list's end
 pub run-snoc : (m : List ℕ) (xs : List Order) (s : Order) → run leaves m (xs ++ (s ∷ [])) ≡ leaves (run leaves m xs) s
@@ -109,7 +109,7 @@ module _ (m₀ ws a₀ b₀ m a b : List ℕ) (count k : ℕ) (ha : 4 * count �
 
 -- after the last step
 pub running-done : (m₀ ws a₀ b₀ m a b : List ℕ) (count k : ℕ) → k ≡ count → Running m₀ ws a₀ b₀ m a b k
-    → ran_of m₀ count ws a₀ b₀ ≡ record { verdict = Fine; memory = m; answers = a; buffers = b }
+    → ran_of m₀ count ws a₀ b₀ ≡ record { verdict = Ok tt; memory = m; answers = a; buffers = b }
 unfolding ran_of
 running-done m₀ ws a₀ b₀ m a b count k e s =
-    rw (← e) (λ i. record { verdict = Fine; memory = sym s.memory i; answers = sym s.answers i; buffers = sym s.buffers i })
+    rw (← e) (λ i. record { verdict = Ok tt; memory = sym s.memory i; answers = sym s.answers i; buffers = sym s.buffers i })

@@ -8,9 +8,9 @@ use lib.ListN.{length, set}
 use Rattle.step.specs.declared.Step.{Step}
 use Rattle.step.specs.declared.Step.TheVariants.{Command, Front, Z, C, Inhibit, LookAtMe, Scan, Repeat, Stop, Put, PutLent, Processor, Within}
 use Rattle.step.specs.declared.Short.TheVariants.{ShortScan, ShortRepeat, ShortStop}
-use Rattle.step.specs.declared.Reading.{Reading}
-use Rattle.step.specs.declared.Reading.TheVariants.{Good, Bad}
 use Rattle.lists.specs.Words.{step_words, TenMore, kinds_of, reading_of}
+use Rattle.std.specs.Prelude.{Ok, Err}
+use Rattle.step.specs.Results.{Reading}
 
 -- six words stored
 pub six-sets : (xs : List ℕ) (a b c d e f : ℕ) → length xs ≡ 6
@@ -25,7 +25,7 @@ six-sets (_ ∷ _ ∷ _ ∷ _ ∷ _ ∷ _ ∷ []) a b c d e f l = refl
 six-sets (_ ∷ _ ∷ _ ∷ _ ∷ _ ∷ _ ∷ _ ∷ xs) a b c d e f l = absurd (omega arith)
 
 -- ---- each kind of step
-step_words_lem : (s : Step) → (length (step_words s) ≡ 6) × (reading_of (step_words s) ≡ Good s)
+step_words_lem : (s : Step) → (length (step_words s) ≡ 6) × (reading_of (step_words s) ≡ Ok s)
 unfolding step_words reading_of kinds_of
 step_words_lem (Command n a f w) = (refl, refl)
 step_words_lem (Front n a v) = (refl, refl)
@@ -48,7 +48,7 @@ pub words-six : (s : Step) → length (step_words s) ≡ 6
 words-six s = (step_words_lem s).0
 
 -- and is read back from them
-pub step_back : (s : Step) → reading_of (step_words s) ≡ Good s
+pub step_back : (s : Step) → reading_of (step_words s) ≡ Ok s
 step_back s = (step_words_lem s).1
 
 -- so steps with equal words are equal
@@ -56,8 +56,8 @@ pub words-tell : (s t : Step) → step_words s ≡ step_words t → s ≡ t
 words-tell s t e = ap step_or (sym (step_back s) ∙ ap reading_of e ∙ step_back t)
   where
     step_or : Reading → Step
-    step_or (Good r) = r
-    step_or (Bad q) = s
+    step_or (Ok r) = r
+    step_or (Err q) = s
 
 -- a transfer at the trigger processor's entry beside that at the general one
 pub ten-more : TenMore

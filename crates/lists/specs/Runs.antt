@@ -1,14 +1,13 @@
 -- A whole list of steps, run from a memory: what it leaves of the memory, of the answers and of the buffers.
-use Rattle.std.specs.Prelude.{ℕ, ◌*◌, Bool, cond, ◌&&◌, List, [], ◌∷◌, ◌++◌, leb, length, drop}
+use Rattle.std.specs.Prelude.{ℕ, ◌*◌, Bool, cond, ◌&&◌, List, [], ◌∷◌, ◌++◌, leb, length, drop, Ok, Err}
 use Rattle.regroup.specs.Lists.{run, outs}
 use Rattle.dataway.specs.Crate.{is_fit_crate}
 use Rattle.step.specs.declared.Refusal.{Refusal}
 use Rattle.step.specs.declared.Refusal.TheVariants.{ShortBuffer, UnfitCrate}
-use Rattle.step.specs.declared.Verdict.{Verdict}
-use Rattle.step.specs.declared.Verdict.TheVariants.{Fine, Refuse}
 use Rattle.controller.specs.Answers.{answer_words}
 use Rattle.controller.specs.Steps.{Out, leaves, gives}
 use Rattle.lists.specs.Words.{orders_of}
+use Rattle.step.specs.Results.{Verdict}
 
 -- the words of each, one after the other
 unfoldable pub joined : (Out → List ℕ) → List Out → List ℕ
@@ -33,7 +32,7 @@ pub record Ran : Type 0 where
 -- each of the `count` steps in turn; words past their answers and buffers keep their contents
 unfoldable pub ran_of : (m : List ℕ) (count : ℕ) (ws ans bs : List ℕ) → Ran
 ran_of m count ws ans bs = record {
-  verdict = Fine;
+  verdict = Ok tt;
   memory = run leaves m (orders_of ws bs count);
   answers = joined answer_of (outs leaves gives m (orders_of ws bs count)) ++ drop (4 * count) ans;
   buffers = joined buffer_of (outs leaves gives m (orders_of ws bs count)) ++ drop (512 * count) bs;
@@ -41,7 +40,7 @@ ran_of m count ws ans bs = record {
 
 -- a run that is refused changes nothing
 abbrev pub unrun : Refusal → (m ans bs : List ℕ) → Ran
-unrun q m ans bs = record { verdict = Refuse q; memory = m; answers = ans; buffers = bs }
+unrun q m ans bs = record { verdict = Err q; memory = m; answers = ans; buffers = bs }
 
 -- enough words are lent for `count` steps, their answers and their buffers
 unfoldable pub is_enough : ℕ → (ws ans bs : List ℕ) → Bool

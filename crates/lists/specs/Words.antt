@@ -1,5 +1,5 @@
 -- A list of steps lent as words: six words a step and 512 words of buffer a step; four words of answer a step.
-use Rattle.std.specs.Prelude.{ℕ, zero, suc, ◌+◌, ◌*◌, ◌≡◌, List, [], ◌∷◌, ◌++◌, get_or, take, drop}
+use Rattle.std.specs.Prelude.{ℕ, zero, suc, ◌+◌, ◌*◌, ◌≡◌, List, [], ◌∷◌, ◌++◌, get_or, take, drop, Ok, Err}
 use Rattle.kinds.specs.Cases.{Case, ◌does◌, case_of}
 use Rattle.step.specs.declared.Refusal.TheVariants.{Garbled}
 use Rattle.step.specs.declared.Step.{Step}
@@ -7,9 +7,8 @@ use Rattle.step.specs.declared.Step.TheVariants.{Command, Front, Z, C, Inhibit, 
 use Rattle.step.specs.declared.Short.{Short}
 use Rattle.step.specs.declared.Short.TheVariants.{ShortScan, ShortRepeat, ShortStop}
 use Rattle.step.specs.Entries.{general_of}
-use Rattle.step.specs.declared.Reading.{Reading}
-use Rattle.step.specs.declared.Reading.TheVariants.{Good, Bad}
 use Rattle.controller.specs.Steps.{Order, order}
+use Rattle.step.specs.Results.{Reading}
 
 -- the six words of a step: which kind it is, then its fields in the line's order, then 0; a put of lent words (11) and a transfer at the trigger processor's entry
 -- (17, 18, 19) have no line
@@ -37,26 +36,26 @@ TenMore = (t : Short) → step_words (Processor t) ≡ (get_or (step_words (gene
 -- the six words read back: what each first word stands for; words past a step's fields are not looked at
 unfoldable pub kinds_of : List ℕ → List (Case Reading)
 kinds_of w =
-    1 does Good (Command (get_or w 1 0) (get_or w 2 0) (get_or w 3 0) (get_or w 4 0))
-    ∷ 2 does Good (Front (get_or w 1 0) (get_or w 2 0) (get_or w 3 0))
-    ∷ 3 does Good Z
-    ∷ 4 does Good C
-    ∷ 5 does Good (Inhibit (get_or w 1 0))
-    ∷ 6 does Good LookAtMe
-    ∷ 7 does Good (Scan (get_or w 1 0) (get_or w 2 0) (get_or w 3 0) (get_or w 4 0) (get_or w 5 0))
-    ∷ 8 does Good (Repeat (get_or w 1 0) (get_or w 2 0) (get_or w 3 0) (get_or w 4 0) (get_or w 5 0))
-    ∷ 9 does Good (Stop (get_or w 1 0) (get_or w 2 0) (get_or w 3 0) (get_or w 4 0))
-    ∷ 10 does Good (Put (get_or w 1 0) (get_or w 2 0) (get_or w 3 0) (get_or w 4 0) (get_or w 5 0))
-    ∷ 11 does Good (PutLent (get_or w 1 0) (get_or w 2 0) (get_or w 3 0) (get_or w 4 0))
-    ∷ 12 does Good (Within (get_or w 1 0) (get_or w 2 0) (get_or w 3 0) (get_or w 4 0))
-    ∷ 17 does Good (Processor (ShortScan (get_or w 1 0) (get_or w 2 0) (get_or w 3 0) (get_or w 4 0) (get_or w 5 0)))
-    ∷ 18 does Good (Processor (ShortRepeat (get_or w 1 0) (get_or w 2 0) (get_or w 3 0) (get_or w 4 0) (get_or w 5 0)))
-    ∷ 19 does Good (Processor (ShortStop (get_or w 1 0) (get_or w 2 0) (get_or w 3 0) (get_or w 4 0)))
+    1 does Ok (Command (get_or w 1 0) (get_or w 2 0) (get_or w 3 0) (get_or w 4 0))
+    ∷ 2 does Ok (Front (get_or w 1 0) (get_or w 2 0) (get_or w 3 0))
+    ∷ 3 does Ok Z
+    ∷ 4 does Ok C
+    ∷ 5 does Ok (Inhibit (get_or w 1 0))
+    ∷ 6 does Ok LookAtMe
+    ∷ 7 does Ok (Scan (get_or w 1 0) (get_or w 2 0) (get_or w 3 0) (get_or w 4 0) (get_or w 5 0))
+    ∷ 8 does Ok (Repeat (get_or w 1 0) (get_or w 2 0) (get_or w 3 0) (get_or w 4 0) (get_or w 5 0))
+    ∷ 9 does Ok (Stop (get_or w 1 0) (get_or w 2 0) (get_or w 3 0) (get_or w 4 0))
+    ∷ 10 does Ok (Put (get_or w 1 0) (get_or w 2 0) (get_or w 3 0) (get_or w 4 0) (get_or w 5 0))
+    ∷ 11 does Ok (PutLent (get_or w 1 0) (get_or w 2 0) (get_or w 3 0) (get_or w 4 0))
+    ∷ 12 does Ok (Within (get_or w 1 0) (get_or w 2 0) (get_or w 3 0) (get_or w 4 0))
+    ∷ 17 does Ok (Processor (ShortScan (get_or w 1 0) (get_or w 2 0) (get_or w 3 0) (get_or w 4 0) (get_or w 5 0)))
+    ∷ 18 does Ok (Processor (ShortRepeat (get_or w 1 0) (get_or w 2 0) (get_or w 3 0) (get_or w 4 0) (get_or w 5 0)))
+    ∷ 19 does Ok (Processor (ShortStop (get_or w 1 0) (get_or w 2 0) (get_or w 3 0) (get_or w 4 0)))
     ∷ []
 
 -- the step of six words; any other number is garbled
 unfoldable pub reading_of : List ℕ → Reading
-reading_of w = case_of (get_or w 0 0) (kinds_of w) (Bad Garbled)
+reading_of w = case_of (get_or w 0 0) (kinds_of w) (Err Garbled)
 
 -- part k of a list that is made of parts of w words
 abbrev pub part : (w : ℕ) → List ℕ → ℕ → List ℕ

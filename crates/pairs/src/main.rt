@@ -23,15 +23,15 @@ fn compare_pair<R: Files + Print>(
 )
     requires { (length line.old ≡ 81) × (length first.old ≡ 599994) × (length second.old ≡ 599994) × (4096 ≤ length out.old) }
 {
-    let tens = 48 + k / 10 % 10;
-    let ones = 48 + k % 10;
+    let tens = b'0' + k / 10 % 10;
+    let ones = b'0' + k % 10;
     let first_path = [tens, ones, b'.', b'r', b'u', b'n'];
     let second_path = [
         tens, ones, b'.', b'r', b'e', b'g', b'r', b'o', b'u', b'p', b'e', b'd',
     ];
     let head = [b'c', b'a', b's', b'e', b'=', tens, ones, b'\n'];
     let _ = rt.write_all(&head);
-    regrouping::compare_files(
+    let _ = regrouping::compare_files(
         rt,
         err,
         &first_path,

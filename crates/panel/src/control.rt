@@ -4,7 +4,7 @@ ghost use Rattle.station.specs.Block.{FitBlock};
 ghost use Rattle.station.specs.Control.{initialized_of, cleared_of, module_of};
 
 use kinds::Module;
-use station::block::{COUNT, KIND, WIDTH, zero, zero_module};
+use station::block::{COUNT, KIND, WIDTH, zero_module};
 
 // Z: every register, status, mask, head and fill becomes 0.
 pub fn initialize(b: &mut [u32])
@@ -19,11 +19,8 @@ pub fn clear(b: &mut [u32])
     requires { FitBlock b.old }
     ensures { b.new ≡ cleared_of b.old }
 {
-    let r = b[COUNT];
-    let mut a: u32 = 0;
-    while a < r {
+    for a in 0..b[COUNT] {
         station::group1::clear(b, a);
-        a += 1;
     }
 }
 
@@ -32,7 +29,7 @@ pub fn put_module(b: &mut [u32], held: Module)
     requires { length b.old ≡ 32 }
     ensures { b.new ≡ module_of held }
 {
-    zero(b);
+    b.fill(0);
     b[KIND] = held.kind;
     b[COUNT] = held.r;
     b[WIDTH] = held.wide;

@@ -10,28 +10,19 @@ use station::block::{
 use word24::word::fits_bits;
 
 // Words 0 to 7.
+#[tactic(auto, using(crate::proofs::FitnessLaws::table_bounds), unfolding(station::specs::Block::is_fit_header, station::specs::Block::header_tests))]
 fn is_fit_header(b: &[u32]) -> bool
     requires { length b.now ≡ 32 }
     ensures { result ≡ is_fit_header b.now }
 {
     let kind = b[KIND];
-    if !in_table(kind, b[COUNT], b[WIDTH]) {
-        return false;
-    }
     let s = sources(b);
-    if !fits_bits(b[STATUS], s) {
-        return false;
-    }
-    if !fits_bits(b[MASK], s) {
-        return false;
-    }
-    if last_head(kind) < b[HEAD] {
-        return false;
-    }
-    if most_fill(kind) < b[FILL] {
-        return false;
-    }
-    b[COVERED] <= most_covered(kind)
+    in_table(kind, b[COUNT], b[WIDTH])
+        && fits_bits(b[STATUS], s)
+        && fits_bits(b[MASK], s)
+        && b[HEAD] <= last_head(kind)
+        && b[FILL] <= most_fill(kind)
+        && b[COVERED] <= most_covered(kind)
 }
 
 // Words 8 to 15.
@@ -39,75 +30,50 @@ fn are_spares_zero(b: &[u32]) -> bool
     requires { length b.now ≡ 32 }
     ensures { result ≡ every 8 (is_fit_spare b.now) }
 {
-    let mut i = 0;
-    while i < 8 {
-        if b[SPARE + i] != 0 {
-            return false;
-        }
-        i += 1;
-    }
-    true
+    b[SPARE..REGISTERS].iter().all(|word| *word == 0)
 }
 
 // Whether register i may differ from 0.
+#[tactic(auto, unfolding(station::specs::Block::is_used))]
 fn is_used(b: &[u32], i: usize) -> bool
-    requires fact_1 { length b.now ≡ 32 }
-    requires fact_2 { head_of b.now < 16 }
-    requires fact_3 { i < 16 }
+    requires block_len { length b.now ≡ 32 }
+    requires head_bound { head_of b.now < 16 }
+    requires i_bound { i < 16 }
     ensures { result ≡ is_used b.now i }
 {
     if b[KIND] == BUFFER_MEMORY {
         let head = b[HEAD] as usize;
-        return (i + 16 - head) % 16 < b[FILL] as usize;
+        (i + 16 - head) % 16 < b[FILL] as usize
+    } else {
+        i < b[COUNT] as usize
     }
-    i < b[COUNT] as usize
 }
 
 // Register i.
+#[tactic(auto, unfolding(station::specs::Block::is_fit_register))]
 fn is_fit_register(b: &[u32], i: usize) -> bool
-    requires fact_1 { length b.now ≡ 32 }
-    requires fact_2 { head_of b.now < 16 }
-    requires fact_3 { i < 16 }
+    requires block_len { length b.now ≡ 32 }
+    requires head_bound { head_of b.now < 16 }
+    requires i_bound { i < 16 }
     ensures { result ≡ is_fit_register b.now i }
 {
     let word = b[REGISTERS + i];
-    if !fits_bits(word, 24) {
-        return false;
-    }
-    if is_used(b, i) {
-        return true;
-    }
-    word == 0
+    fits_bits(word, 24) && (is_used(b, i) || word == 0)
 }
 
 // Words 16 to 31.
 fn are_registers_fit(b: &[u32]) -> bool
-    requires fact_1 { length b.now ≡ 32 }
-    requires fact_2 { head_of b.now < 16 }
+    requires block_len { length b.now ≡ 32 }
+    requires head_bound { head_of b.now < 16 }
     ensures { result ≡ every 16 (is_fit_register b.now) }
 {
-    let mut i = 0;
-    while i < 16 {
-        if !is_fit_register(b, i) {
-            return false;
-        }
-        i += 1;
-    }
-    true
+    (0..16).all(|i| is_fit_register(b, i))
 }
 
 // The whole block.
+#[tactic(auto, using(crate::proofs::FitnessLaws::head_below), unfolding(station::specs::Block::is_fit_block, station::specs::Block::fit_tests))]
 pub fn is_fit_block(b: &[u32]) -> bool
     ensures { result ≡ is_fit_block b.now }
 {
-    if b.len() != 32 {
-        return false;
-    }
-    if !is_fit_header(b) {
-        return false;
-    }
-    if !are_spares_zero(b) {
-        return false;
-    }
-    are_registers_fit(b)
+    b.len() == 32 && is_fit_header(b) && are_spares_zero(b) && are_registers_fit(b)
 }

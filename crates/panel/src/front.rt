@@ -9,7 +9,8 @@ use station::group1;
 use word24::counter::count24;
 use word24::word::clear_bits;
 
-// The digits of an event: not taken, taken, taken with a status bit gone from 0 to 1, its word lost in a full buffer memory.
+// The digits of an event: not taken, taken, taken with a status bit gone from 0 to 1, its word lost in a full buffer memory. They are numbers, since the digit
+// is what is answered and printed.
 const NOT_TAKEN: u32 = 0;
 
 const TAKEN: u32 = 1;
@@ -38,9 +39,10 @@ fn digit(before: u32, after: u32) -> u32
 }
 
 // An input register holds v.
+#[tactic(auto, unfolding(station::specs::Front::held_of))]
 fn hold(b: &mut [u32], a: u32, v: u32)
-    requires fact_1 { FitBlock b.old }
-    requires fact_2 { a < 16 }
+    requires fit_block { FitBlock b.old }
+    requires a_bound { a < 16 }
     ensures { b.new ≡ held_of b.old a v }
 {
     b[REGISTERS + a as usize] = v;
@@ -48,10 +50,11 @@ fn hold(b: &mut [u32], a: u32, v: u32)
 }
 
 // An up-down counter counts by v.
+#[tactic(auto, unfolding(station::specs::Front::counted_of))]
 fn count(b: &mut [u32], a: u32, v: u32)
-    requires fact_1 { FitBlock b.old }
-    requires fact_2 { a < 16 }
-    requires fact_3 { v < 2 ^ 24 }
+    requires fit_block { FitBlock b.old }
+    requires a_bound { a < 16 }
+    requires v_bound { v < 2 ^ 24 }
     ensures { b.new ≡ counted_of b.old a v }
 {
     let i = REGISTERS + a as usize;
@@ -83,34 +86,24 @@ fn store(b: &mut [u32], v: u32) -> u32
 }
 
 // An event with the word v at subaddress a, given the crate's Inhibit: its digit.
+#[tactic(auto, unfolding(station::specs::Front::front_of, station::specs::Front::kind_events_of))]
 pub fn front_event(b: &mut [u32], inhibit: u32, a: u32, v: u32) -> u32
-    requires fact_1 { FitBlock b.old }
-    requires fact_2 { a < 16 }
-    requires fact_3 { v < 2 ^ 24 }
+    requires fit_block { FitBlock b.old }
+    requires a_bound { a < 16 }
+    requires v_bound { v < 2 ^ 24 }
     ensures { front_of inhibit b.old a v ≡ record { block = b.new; taken = result } }
 {
     let kind = b[KIND];
     let before = status(b);
-    if inhibit == 1 {
-        return NOT_TAKEN;
-    }
-    if b[COUNT] <= a {
+    if inhibit == 1 || b[COUNT] <= a {
         return NOT_TAKEN;
     }
     match kind {
-        SCALER => {
-            group1::add(b, a, v);
-            digit(before, status(b))
-        }
-        INPUT_REGISTER => {
-            hold(b, a, v);
-            digit(before, status(b))
-        }
-        BUFFER_MEMORY => store(b, v),
-        UP_DOWN_COUNTER => {
-            count(b, a, v);
-            digit(before, status(b))
-        }
-        _ => NOT_TAKEN,
+        SCALER => group1::add(b, a, v),
+        INPUT_REGISTER => hold(b, a, v),
+        BUFFER_MEMORY => return store(b, v),
+        UP_DOWN_COUNTER => count(b, a, v),
+        _ => return NOT_TAKEN,
     }
+    digit(before, status(b))
 }

@@ -6,7 +6,7 @@ ghost use Rattle.std.specs.Prelude.{◌≤◌, length};
 
 use kinds::Module;
 use std::io::Read;
-use step::{ModuleLine, Reading, Refusal, Step};
+use step::{Refusal, Step};
 
 // The stored input fits.
 const ROOM: usize = 262144;
@@ -109,12 +109,12 @@ fn show_step(rt: &impl Print, step: Step) {
     }
 }
 
-fn show_reading(rt: &impl Print, reading: Reading) {
+fn show_reading(rt: &impl Print, reading: Result<Step, Refusal>) {
     match reading {
-        Reading::Good(step) => {
+        Ok(step) => {
             show_step(rt, step);
         }
-        Reading::Bad(refusal) => {
+        Err(refusal) => {
             show_refusal(rt, refusal);
         }
     }
@@ -127,12 +127,12 @@ fn show_module(rt: &impl Print, module: Module) {
     show_field(rt, b" wide=", module.wide);
 }
 
-fn show_module_line(rt: &impl Print, line: ModuleLine) {
+fn show_module_line(rt: &impl Print, line: Result<Module, Refusal>) {
     match line {
-        ModuleLine::Holds(module) => {
+        Ok(module) => {
             show_module(rt, module);
         }
-        ModuleLine::Bad(refusal) => {
+        Err(refusal) => {
             show_refusal(rt, refusal);
         }
     }
@@ -147,33 +147,10 @@ fn show_line(rt: &impl Print, k: usize, line: &[u8]) {
     show(rt, b"\n");
 }
 
-// Where the line that begins at start ends: at the next LF, or at the end.
-fn line_end(input: &[u8], start: usize) -> usize
-    requires { start ≤ length input.now }
-    ensures { (start ≤ result) × (result ≤ length input.now) }
-{
-    let mut i = start;
-    while i < input.len() {
-        if input[i] == b'\n' {
-            return i;
-        }
-        i += 1;
-    }
-    i
-}
-
 // LF ends a line, and the last may lack it.
 fn show_lines(rt: &impl Print, input: &[u8]) {
-    let mut start = 0;
-    let mut k = 1;
-    while start < input.len() {
-        let end = line_end(input, start);
-        show_line(rt, k, &input[start..end]);
-        if end == input.len() {
-            return;
-        }
-        start = end + 1;
-        k += 1;
+    for (k, line) in input.split_inclusive(|b| *b == b'\n').enumerate() {
+        show_line(rt, k + 1, line.strip_suffix(b"\n").unwrap_or(line));
     }
 }
 
@@ -182,6 +159,7 @@ fn read_full(input: &mut impl Read, buf: &mut [u8]) -> usize
     ensures { result ≤ length buf.new }
 {
     let mut done = 0;
+    // A `while`: a read gives as many bytes as there are.
     while done < buf.len() {
         let n = match input.read(&mut buf[done..]) {
             Ok(n) => n,

@@ -2,17 +2,18 @@
 -- Assumes nothing.
 use Prim.Native.Nat.{ℕ, ◌+◌, ◌-◌, ◌≤◌, ◌<◌}
 use mathlib.Core.Path.{◌≡◌, refl, sym, ap, ◌∙◌}
+use mathlib.Core.Bool.{true}
 use mathlib.Core.List.{List, [], ◌++◌}
 use native.Mathlib.Omega.{arith}
 use lib.ListN.{length, take, drop}
 use lib.Seq.{length-take-le, take-take}
 use Rattle.lines.specs.Lines.{NoLf}
-use Rattle.lines.specs.Cutting.{ended, step, feed}
-use Rattle.lines.proofs.CuttingLaws.{ended-part, feed-span, fed-span}
+use Rattle.lines.specs.Cutting.{opened, ended, step, feed}
+use Rattle.lines.proofs.CuttingLaws.{ended-part, step_end, feed-span, fed-span}
 use Rattle.lines.proofs.CuttingLaws as cutting
 use Rattle.reader.specs.declared.Reader.{Reader}
 use Rattle.reader.specs.Reading.{State, rehearsing, state_of}
-use Rattle.reader.proofs.ReadingLaws.{states, step_end, open-still}
+use Rattle.reader.proofs.ReadingLaws.{states}
 
 -- after a line the next one is empty
 pub none-held : (r : Reader) (window m o : List ℕ) (s : State) → r.fill ≤ length window → state_of r window m o ≡ ended rehearsing s → r.fill ≡ 0
@@ -25,13 +26,13 @@ pub anywhere : (r : Reader) (l window m o : List ℕ) → r.fill ≡ 0 → state
 anywhere r l window m o e = states (ap (λ (k : ℕ). take k l) e ∙ sym (ap (λ (k : ℕ). take k window) e)) refl refl refl refl refl
 
 -- ---- a line t, taken from a state s that holds none of it, and its LF; p is as much of it as is read
-pub in_place : (s : State) (p t : List ℕ) → s.part ≡ [] → s.number < 99999 → s.held.phase < 2 → NoLf t → p ≡ take 81 t
+pub in_place : (s : State) (p t : List ℕ) → s.part ≡ [] → opened rehearsing s ≡ true → NoLf t → p ≡ take 81 t
     → ended rehearsing (record { part = p; number = s.number; held = s.held }) ≡ step rehearsing (feed rehearsing s t) 10
-in_place s p t e h k n q =
+in_place s p t e still n q =
     let held : State = record { part = p; number = s.number; held = s.held } in
-    step_end held 10 h k refl
+    sym (step_end rehearsing held 10 still refl)
     ∙ ap (λ (x : State). step rehearsing x 10)
-    (sym (feed-span rehearsing t s (open-still s h k) (e ∙ ap (take 81) (sym e)) n
+    (sym (feed-span rehearsing t s still (e ∙ ap (take 81) (sym e)) n
     ∙ cutting.states (ap (λ (x : List ℕ). take 81 (x ++ t)) e ∙ sym q) refl refl))
 
 -- the bytes up to a line of a text, and then the line with its LF

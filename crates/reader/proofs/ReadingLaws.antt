@@ -1,78 +1,68 @@
 -- The cases of the state machine that the reader's branches take.
 -- Assumes nothing.
-use Prim.Native.Nat.{ℕ, zero, suc, ◌+◌, ◌≤◌, ◌<◌}
+use Prim.Native.Nat.{ℕ, ◌+◌, ◌≤◌}
 use mathlib.Core.Path.{◌≡◌, refl, sym, ap, ◌∙◌}
 use mathlib.Core.Bool.{Bool, true, false, cond}
 use mathlib.Core.List.{List}
 use native.Mathlib.Omega.{arith}
-use borrow.Author.Tests.{lt-ltb, le-ltb, eq-eqb, ne_eqb}
 use lib.ListN.{length, replicate, length-append}
 use lib.Seq.{length-take-le}
-use Rattle.lines.specs.Cutting.{Cutting, opened, ended, step, closed}
-use Rattle.lines.proofs.CuttingLaws.{open-still as still, shut-over as over, shut-ended as stopped, step-shut, step_end as at-end, closed-shut, closed_none as close-none, closed-end as close-end}
+use Rattle.lines.specs.Cutting.{Cutting, opened, ended}
+use Rattle.lines.proofs.CuttingLaws.{shut-ended as stopped}
 use Rattle.lines.proofs.CuttingLaws as cutting
 use Rattle.text.specs.Paste.{pasted, Put}
 use Rattle.dataway.specs.Crate.{FitCrate}
 use Rattle.dataway.proofs.CrateLaws.{facts-crate}
 use Rattle.step.specs.declared.Refusal.{Refusal}
 use Rattle.kinds.specs.declared.Module.{Module}
-use Rattle.step.specs.declared.ModuleLine.{ModuleLine}
-use Rattle.step.specs.declared.ModuleLine.TheVariants.{Holds, Bad}
-use Rattle.step.specs.declared.Reading.{Reading}
-use Rattle.step.specs.declared.Verdict.{Verdict}
-use Rattle.step.specs.declared.Verdict.TheVariants.{Refuse}
 use Rattle.runfile.specs.Read.{read_line, read_module}
 use Rattle.controller.specs.Placing.{Installed, place_of}
 use Rattle.controller.specs.Steps.{Performed, order, done_of}
 use Rattle.controller.proofs.StepLaws.{step-done}
 use Rattle.rehearsal.proofs.ModuleLaws.{install-fit, install-bad}
 use Rattle.sheet.specs.Sheet.{station_of, line_order}
-use Rattle.reader.specs.Reading.{Work, State, next, after_module, after_step, uses_buffer, module_line, run_line, answered, rehearsing}
+use Rattle.reader.specs.declared.Phase.{Phase}
+use Rattle.reader.specs.Reading.{Work, State, reads_run, is_open, next, after_module, after_step, uses_buffer, module_line, run_line, answered, rehearsing}
 use Rattle.reader.proofs.Buffers.{as-good}
+use Rattle.std.specs.Prelude.{Ok, Err}
+use Rattle.step.specs.Results.{ModuleLine, Reading, Verdict}
 
 -- two states with the same parts are one
-pub states : {p q m n o x : List ℕ} {i j k l d e : ℕ} → p ≡ q → i ≡ j → k ≡ l → d ≡ e → m ≡ n → o ≡ x
+pub states : {p q m n o x : List ℕ} {i j d e : ℕ} {k l : Phase} → p ≡ q → i ≡ j → k ≡ l → d ≡ e → m ≡ n → o ≡ x
     → ◌≡◌ {A = Cutting Work} (record { part = p; number = i; held = record { phase = k; previous = d; memory = m; printed = o } })
     (record { part = q; number = j; held = record { phase = l; previous = e; memory = n; printed = x } })
 states a b c d e f = cc
 
--- ---- whether a line may still be read
 module _ (s : State) where
-  pub open-still : s.number < 99999 → s.held.phase < 2 → opened rehearsing s ≡ true
-  open-still h k = still rehearsing s h (lt-ltb s.held.phase 2 k)
+  -- no line is read any more
+  pub shut-ended : is_open s.held.phase ≡ false → opened rehearsing s ≡ false
+  shut-ended h = stopped rehearsing s h
 
-  pub shut-over : 99999 ≤ s.number → opened rehearsing s ≡ false
-  shut-over h = over rehearsing s h
-
-  pub shut-ended : 2 ≤ s.held.phase → opened rehearsing s ≡ false
-  shut-ended h = stopped rehearsing s (le-ltb s.held.phase 2 h)
-
--- ---- a line ends
-module _ (s : State) where
-  pub run-answered : s.held.phase ≡ 1 → next (run_line s.part) s ≡ ended rehearsing s
+  -- ---- a line ends
+  pub run-answered : reads_run s.held.phase ≡ true → next (run_line s.part) s ≡ ended rehearsing s
   unfolding ended answered
-  run-answered h = sym (ap (λ (t : Bool). next (λ k x. cond t (run_line s.part k x) (module_line s.part k x)) s) (eq-eqb s.held.phase 1 h))
+  run-answered h = sym (ap (λ (t : Bool). next (λ k x. cond t (run_line s.part k x) (module_line s.part k x)) s) h)
 
-  pub module-answered : (s.held.phase ≡ 1 → ⊥) → next (module_line s.part) s ≡ ended rehearsing s
+  pub module-answered : reads_run s.held.phase ≡ false → next (module_line s.part) s ≡ ended rehearsing s
   unfolding ended answered
-  module-answered h = sym (ap (λ (t : Bool). next (λ k x. cond t (run_line s.part k x) (module_line s.part k x)) s) (ne_eqb s.held.phase 1 h))
+  module-answered h = sym (ap (λ (t : Bool). next (λ k x. cond t (run_line s.part k x) (module_line s.part k x)) s) h)
 
 module _ (s : State) (l : List ℕ) where
   -- a crate line that holds no module
-  pub line-bad : (q : Refusal) (n : ℕ) → FitCrate s.held.memory → read_module l ≡ Bad q → next (after_module (Refuse q) n s.held.memory) s ≡ next (module_line l) s
+  pub line-bad : (q : Refusal) (n : ℕ) → FitCrate s.held.memory → read_module l ≡ Err q → next (after_module (Err q) n s.held.memory) s ≡ next (module_line l) s
   unfolding module_line
   line-bad q n f e =
       sym (ap (λ (i : Installed). next (after_module i.verdict (station_of (read_module l)) i.memory) s)
       (install-bad s.held.memory s.held.previous (read_module l) q (facts-crate s.held.memory f) e))
 
   -- a crate line that holds one, with its verdict w
-  pub line-placed : (p : Module) (v w : Verdict) (m : List ℕ) → FitCrate s.held.memory → read_module l ≡ Holds p
-      → place_of s.held.memory s.held.previous (Holds p) ≡ record { verdict = v; memory = m } → v ≡ w → next (after_module w p.n m) s ≡ next (module_line l) s
+  pub line-placed : (p : Module) (v w : Verdict) (m : List ℕ) → FitCrate s.held.memory → read_module l ≡ Ok p
+      → place_of s.held.memory s.held.previous (Ok p) ≡ record { verdict = v; memory = m } → v ≡ w → next (after_module w p.n m) s ≡ next (module_line l) s
   unfolding module_line
   line-placed p v w m f e h g =
       ap (λ (x : Verdict). next (after_module x p.n m) s) (sym g)
       ∙ sym (ap (λ (i : Installed). next (after_module i.verdict (station_of (read_module l)) i.memory) s)
-      (install-fit s.held.memory s.held.previous (read_module l) (Holds p) (record { verdict = v; memory = m }) (facts-crate s.held.memory f) e h)
+      (install-fit s.held.memory s.held.previous (read_module l) (Ok p) (record { verdict = v; memory = m }) (facts-crate s.held.memory f) e h)
       ∙ ap (λ (r : ModuleLine). next (after_module v (station_of r) m) s) e)
 
   -- a run line, lent a buffer b that is 512 words of 0 where it is looked at
@@ -92,33 +82,3 @@ length-paste o i t h = simp (length-append, length-take-le i o h) (omega arith)
 
 pub put-within : {o p t : List ℕ} {i j : ℕ} → Put o i t p j → i ≤ length o → j ≤ length p
 put-within {o} {p} {t} {i} {j} f h = rw (f.place, f.buffer) (length-paste o i t h)
-
--- ---- one byte
-module _ (s : State) (b : ℕ) where
-  pub step-over : 99999 ≤ s.number → s ≡ step rehearsing s b
-  step-over h = sym (step-shut rehearsing s b (shut-over s h))
-
-  pub step-stop : s.number < 99999 → 2 ≤ s.held.phase → s ≡ step rehearsing s b
-  step-stop h k = sym (step-shut rehearsing s b (shut-ended s k))
-
-  pub step_end : s.number < 99999 → s.held.phase < 2 → b ≡ 10 → ended rehearsing s ≡ step rehearsing s b
-  step_end h k e = sym (at-end rehearsing s b (open-still s h k) (eq-eqb b 10 e))
-
--- ---- the end of a file
-module _ (s : State) where
-  pub closed-over : 99999 ≤ s.number → s ≡ closed rehearsing s
-  closed-over h = sym (closed-shut rehearsing s (shut-over s h))
-
-  pub closed-stop : s.number < 99999 → 2 ≤ s.held.phase → s ≡ closed rehearsing s
-  closed-stop h k = sym (closed-shut rehearsing s (shut-ended s k))
-
-  pub closed_none : s.number < 99999 → s.held.phase < 2 → length s.part ≡ 0 → s ≡ closed rehearsing s
-  closed_none h k e = sym (close-none rehearsing s (open-still s h k) e)
-
-  pub closed-end : s.number < 99999 → s.held.phase < 2 → 0 < length s.part → ended rehearsing s ≡ closed rehearsing s
-  closed-end h k e = sym (close-end rehearsing s (open-still s h k) e)
-
--- a reader that had room and found none any more has taken bytes
-pub begun : (i at now end : ℕ) → (i ≡ 0 → now ≤ at) → at + 8258 ≤ end → end < now + 8258 → 0 < i
-begun zero at now end h k l = absurd (omega (arith, h refl))
-begun (suc i) at now end h k l = omega arith

@@ -1,24 +1,35 @@
 -- The two files read byte by byte, as the reader's code does it: what each byte does to the state. Nobody has to believe this file: the law of proofs/Whole
 -- says that two files read so print exactly `sheet_of`.
-use Rattle.std.specs.Prelude.{ℕ, ◌+◌, ◌≤◌, ◌≡◌, Bool, true, false, cond, List, [], ◌++◌, ltb, eqb, length, take}
+use Rattle.std.specs.Prelude.{ℕ, ◌+◌, ◌≤◌, ◌≡◌, Bool, true, false, cond, List, [], ◌++◌, length, take, Ok, Err}
 use Rattle.lines.specs.Cutting.{Does, Cutting, fresh, feed}
 use Rattle.runfile.specs.Read.{read_module}
 use Rattle.dataway.specs.Crate.{FitCrate, empty_crate}
-use Rattle.step.specs.declared.Reading.{Reading}
-use Rattle.step.specs.declared.Reading.TheVariants.{Good, Bad}
 use Rattle.step.specs.declared.Step.TheVariants.{Command, Front, Z, C, Inhibit, LookAtMe, Scan, Repeat, Stop, Put, PutLent, Processor, Within}
-use Rattle.step.specs.declared.Verdict.{Verdict}
-use Rattle.step.specs.declared.Verdict.TheVariants.{Fine, Refuse}
 use Rattle.controller.specs.Steps.{Performed, step_of}
 use Rattle.rehearsal.specs.Modules.{install_of}
 use Rattle.sheet.specs.Answers.{step_text, crate_text}
 use Rattle.sheet.specs.Sheet.{station_of, line_order}
+use Rattle.reader.specs.declared.Phase.{Phase}
+use Rattle.reader.specs.declared.Phase.TheVariants.{CrateFile, RunFile, Ended}
 use Rattle.reader.specs.declared.Reader.{Reader}
+use Rattle.step.specs.Results.{Reading, Verdict}
 
--- what is held between lines. phase: 0 in the crate file, 1 in the run file, 2 once the program has ended; previous: the station of the crate line before, 0
--- where there was none; printed: what was printed so far
+-- the run file is read
+abbrev pub reads_run : Phase → Bool
+reads_run CrateFile = false
+reads_run RunFile = true
+reads_run Ended = false
+
+-- a file is read: the program has not ended
+abbrev pub is_open : Phase → Bool
+is_open CrateFile = true
+is_open RunFile = true
+is_open Ended = false
+
+-- what is held between lines. phase: which file is read, or that the program has ended; previous: the station of the crate line before, 0 where there was none;
+-- printed: what was printed so far
 pub record Work : Type 0 where
-  pub phase : ℕ
+  pub phase : Phase
   pub previous : ℕ
   pub memory : List ℕ
   pub printed : List ℕ
@@ -28,12 +39,12 @@ State = Cutting Work
 
 -- after the crate line k for the station n: its verdict, and the memory that it left
 abbrev pub after_module : Verdict → (n : ℕ) → List ℕ → (k : ℕ) → Work → Work
-after_module Fine n m k s = record { phase = 0; previous = n; memory = m; printed = s.printed }
-after_module (Refuse q) n m k s = record { phase = 2; previous = s.previous; memory = m; printed = s.printed ++ crate_text k q }
+after_module (Ok _) n m k s = record { phase = CrateFile; previous = n; memory = m; printed = s.printed }
+after_module (Err q) n m k s = record { phase = Ended; previous = s.previous; memory = m; printed = s.printed ++ crate_text k q }
 
 -- after the line k of the run file, with what it came to
 abbrev pub after_step : Performed → (k : ℕ) → Work → Work
-after_step p k s = record { phase = 1; previous = s.previous; memory = p.memory; printed = s.printed ++ step_text k p.out }
+after_step p k s = record { phase = RunFile; previous = s.previous; memory = p.memory; printed = s.printed ++ step_text k p.out }
 
 -- the state after a line that did f
 abbrev pub next : (ℕ → Work → Work) → State → State
@@ -42,20 +53,20 @@ next f s = record { part = []; number = s.number + 1; held = f (s.number + 1) s.
 -- a reading that looks at the buffer that it is lent: a block transfer, but for a put of one word, and a listing. Any other prints and leaves the same with any buffer:
 -- `unseen` in proofs/Buffers
 abbrev pub uses_buffer : Reading → Bool
-uses_buffer (Bad q) = false
-uses_buffer (Good (Command n a f w)) = false
-uses_buffer (Good (Front n a v)) = false
-uses_buffer (Good Z) = false
-uses_buffer (Good C) = false
-uses_buffer (Good (Inhibit v)) = false
-uses_buffer (Good LookAtMe) = false
-uses_buffer (Good (Scan n a f to limit)) = true
-uses_buffer (Good (Repeat n a f limit tries)) = true
-uses_buffer (Good (Stop n a f limit)) = true
-uses_buffer (Good (Put n a to limit w)) = false
-uses_buffer (Good (PutLent n a to limit)) = true
-uses_buffer (Good (Processor t)) = true
-uses_buffer (Good (Within n to lo hi)) = true
+uses_buffer (Err q) = false
+uses_buffer (Ok (Command n a f w)) = false
+uses_buffer (Ok (Front n a v)) = false
+uses_buffer (Ok Z) = false
+uses_buffer (Ok C) = false
+uses_buffer (Ok (Inhibit v)) = false
+uses_buffer (Ok LookAtMe) = false
+uses_buffer (Ok (Scan n a f to limit)) = true
+uses_buffer (Ok (Repeat n a f limit tries)) = true
+uses_buffer (Ok (Stop n a f limit)) = true
+uses_buffer (Ok (Put n a to limit w)) = false
+uses_buffer (Ok (PutLent n a to limit)) = true
+uses_buffer (Ok (Processor t)) = true
+uses_buffer (Ok (Within n to lo hi)) = true
 
 -- after the crate line l, with number k
 unfoldable pub module_line : List ℕ → (k : ℕ) → Work → Work
@@ -67,19 +78,19 @@ run_line l k s = after_step (step_of s.memory (line_order l)) k s
 
 -- after the line l of the file that is being read
 unfoldable pub answered : (k : ℕ) → List ℕ → Work → Work
-answered k l s = cond (eqb s.phase 1) (run_line l k s) (module_line l k s)
+answered k l s = cond (reads_run s.phase) (run_line l k s) (module_line l k s)
 
 -- lines are read until the program has ended, and each is answered
 abbrev pub rehearsing : Does Work
-rehearsing = record { more = λ s. ltb s.phase 2; line = answered }
+rehearsing = record { more = λ s. is_open s.phase; line = answered }
 
 -- before the crate file
 abbrev pub start : State
-start = fresh (record { phase = 0; previous = 0; memory = empty_crate; printed = [] })
+start = fresh (record { phase = CrateFile; previous = 0; memory = empty_crate; printed = [] })
 
 -- before the run file, unless the program has ended
 abbrev pub second : State → State
-second s = cond (ltb s.held.phase 2) (fresh (record { phase = 1; previous = 0; memory = s.held.memory; printed = s.held.printed })) s
+second s = cond (is_open s.held.phase) (fresh (record { phase = RunFile; previous = 0; memory = s.held.memory; printed = s.held.printed })) s
 
 -- the state with q printed before
 abbrev pub under : List ℕ → State → State

@@ -1,18 +1,25 @@
 // Reads the crate file and the run file, in parts of any length, and prints into a lent buffer.
 #![tactic(auto)]
 
-ghost use Rattle.std.specs.Prelude.{◌≡◌, List, ℕ, ◌+◌, ◌≤◌, ◌<◌, length, take};
-ghost use Rattle.reader.specs.Reading.{rehearsing, next, module_line, run_line, state_of, after_module, after_step, uses_buffer, Held, Ready};
+ghost use Rattle.std.specs.Prelude.{◌≡◌, List, ℕ, ◌+◌, ◌≤◌, ◌<◌, length, take, Err, ltb, ◌&&◌};
+ghost use Rattle.reader.specs.Reading.{rehearsing, next, module_line, run_line, state_of, after_module, after_step, uses_buffer, is_open, Held, Ready};
 ghost use Rattle.lines.specs.Lines.{NoLf, NextLf};
 ghost use Rattle.lines.specs.Cutting.{ended, step, feed, closed};
-ghost use Rattle.step.specs.declared.Verdict.{Verdict};
 ghost use Rattle.dataway.specs.Crate.{FitCrate};
 ghost use Rattle.controller.specs.Steps.{order, done_of};
 
 use controller::placing::place;
-use lines::{LINE_BYTES, LINES, find_lf, least};
+use lines::{LINE_BYTES, LINES, find_lf};
 use sheet::{STEP_ROOM, put_crate_refusal, put_step};
-use step::{ModuleLine, Reading, Refusal, Step, Verdict};
+use step::{Refusal, Step};
+
+// What is read: the crate file, then the run file, and nothing once the program has ended.
+#[derive(Clone, Copy, PartialEq, Eq)]
+pub enum Phase {
+    CrateFile,
+    RunFile,
+    Ended,
+}
 
 // Where the reading stands.
 #[derive(Clone, Copy)]
@@ -21,8 +28,7 @@ pub struct Reader {
     pub fill: usize,
     // Lines of the file that were read.
     pub number: u32,
-    // 0 in the crate file, 1 in the run file, 2 ended.
-    pub phase: u32,
+    pub phase: Phase,
     // Station of the crate line before, 0 where there was none.
     pub previous: u32,
     // Bytes in the output buffer.
@@ -32,17 +38,17 @@ pub struct Reader {
 // A crate line is refused: prints its refusal and ends the program.
 fn refuse(s: Reader, q: Refusal, out: &mut [u8]) -> Reader
     requires { (s.number < 99999) × (s.at + 8258 ≤ length out.old) }
-    ensures by_index { (l m : List ℕ) (n : ℕ) → state_of result l m out.new ≡ next (after_module (Verdict.Refuse q) n m) (state_of s l m out.old) }
-    ensures fill_value { (result.fill ≡ 0) × (result.at ≤ length out.new) }
+    ensures state { (l m : List ℕ) (n : ℕ) → state_of result l m out.new ≡ next (after_module (Err q) n m) (state_of s l m out.old) }
+    ensures counts { (result.fill ≡ 0) × (result.at ≤ length out.new) }
 {
-    let k = s.number + 1;
-    let at = put_crate_refusal(out, s.at, k, q);
+    let number = s.number + 1;
+    let at = put_crate_refusal(out, s.at, number, q);
     Reader {
         fill: 0,
-        number: k,
-        phase: 2,
-        previous: s.previous,
-        at: at,
+        number,
+        phase: Phase::Ended,
+        at,
+        ..s
     }
 }
 
@@ -53,79 +59,71 @@ fn end_module_line(s: Reader, line: &[u8], memory: &mut [u32], out: &mut [u8]) -
     ensures out_after { state_of result line.now memory.new out.new ≡ next (module_line (take s.fill line.now)) (state_of s line.now memory.old out.old) }
     ensures held { Held result line.now memory.new out.new }
 {
-    let fill = s.fill;
-    let read = runfile::read_module(&line[..fill]);
-    match read {
-        ModuleLine::Bad(q) => refuse(s, q, out),
-        ModuleLine::Holds(held) => {
-            let verdict = place(memory, s.previous, held);
-            match verdict {
-                Verdict::Refuse(q) => refuse(s, q, out),
-                Verdict::Fine => Reader {
-                    fill: 0,
-                    number: s.number + 1,
-                    phase: 0,
-                    previous: held.n,
-                    at: s.at,
-                },
-            }
-        }
+    match runfile::read_module(&line[..s.fill]) {
+        Err(q) => refuse(s, q, out),
+        Ok(held) => match place(memory, s.previous, held) {
+            Err(q) => refuse(s, q, out),
+            Ok(()) => Reader {
+                fill: 0,
+                number: s.number + 1,
+                phase: Phase::CrateFile,
+                previous: held.n,
+                ..s
+            },
+        },
     }
 }
 
-// The reading looks at the buffer that it is lent: a block transfer does, but for a put of one word, and a listing. Every kind of step is named, so that a new one is decided here.
-fn uses_buffer(reading: Reading) -> bool
+// The reading looks at the buffer that it is lent: a block transfer does, but for a put of one word, and a listing. Every kind of step is named, so that a new
+// one is decided here.
+fn uses_buffer(reading: Result<Step, Refusal>) -> bool
     ensures { result ≡ uses_buffer reading }
 {
     match reading {
-        Reading::Bad(_) => false,
-        Reading::Good(step) => match step {
-            Step::Command { n, a, f, w } => false,
-            Step::Front { n, a, v } => false,
-            Step::Z => false,
-            Step::C => false,
-            Step::Inhibit { v } => false,
-            Step::LookAtMe => false,
-            Step::Scan { n, a, f, to, limit } => true,
-            Step::Repeat {
-                n,
-                a,
-                f,
-                limit,
-                tries,
-            } => true,
-            Step::Stop { n, a, f, limit } => true,
-            Step::Put { n, a, to, limit, w } => false,
-            Step::PutLent { n, a, to, limit } => true,
-            Step::Processor(short) => true,
-            Step::Within { n, to, lo, hi } => true,
-        },
+        Err(_)
+        | Ok(
+            Step::Command { .. }
+            | Step::Front { .. }
+            | Step::Z
+            | Step::C
+            | Step::Inhibit { .. }
+            | Step::LookAtMe
+            | Step::Put { .. },
+        ) => false,
+        Ok(
+            Step::Scan { .. }
+            | Step::Repeat { .. }
+            | Step::Stop { .. }
+            | Step::PutLent { .. }
+            | Step::Processor(_)
+            | Step::Within { .. },
+        ) => true,
     }
 }
 
 // Does the step of a run line with the lent buffer, and prints the answer.
 fn do_step(
     s: Reader,
-    reading: Reading,
+    reading: Result<Step, Refusal>,
     memory: &mut [u32],
     buffer: &mut [u32],
     out: &mut [u8],
 ) -> Reader
-    requires number_bound { (s.number < 99999) × (s.at + 8258 ≤ length out.old) × (length buffer.old ≤ 512) }
+    requires bounds { (s.number < 99999) × (s.at + 8258 ≤ length out.old) × (length buffer.old ≤ 512) }
     requires fit_crate { FitCrate memory.old }
-    ensures by_index { (l : List ℕ) → state_of result l memory.new out.new ≡ next (after_step (done_of memory.old (order reading buffer.old))) (state_of s l memory.old out.old) }
-    ensures fill_value { (result.fill ≡ 0) × (result.at ≤ length out.new) }
-    ensures fit_crate_2 { FitCrate memory.new }
+    ensures state { (l : List ℕ) → state_of result l memory.new out.new ≡ next (after_step (done_of memory.old (order reading buffer.old))) (state_of s l memory.old out.old) }
+    ensures counts { (result.fill ≡ 0) × (result.at ≤ length out.new) }
+    ensures fit { FitCrate memory.new }
 {
     let answer = controller::perform(memory, reading, buffer);
-    let k = s.number + 1;
-    let at = put_step(out, s.at, k, answer, buffer);
+    let number = s.number + 1;
+    let at = put_step(out, s.at, number, answer, buffer);
     Reader {
         fill: 0,
-        number: k,
-        phase: 1,
-        previous: s.previous,
-        at: at,
+        number,
+        phase: Phase::RunFile,
+        at,
+        ..s
     }
 }
 
@@ -136,14 +134,12 @@ fn end_run_line(s: Reader, line: &[u8], memory: &mut [u32], out: &mut [u8]) -> R
     ensures out_after { state_of result line.now memory.new out.new ≡ next (run_line (take s.fill line.now)) (state_of s line.now memory.old out.old) }
     ensures held { Held result line.now memory.new out.new }
 {
-    let fill = s.fill;
-    let reading = runfile::read_line(&line[..fill]);
+    let reading = runfile::read_line(&line[..s.fill]);
     if uses_buffer(reading) {
         let mut buffer = [0u32; 512];
         return do_step(s, reading, memory, &mut buffer, out);
     }
-    let mut none = [0u32; 0];
-    do_step(s, reading, memory, &mut none, out)
+    do_step(s, reading, memory, &mut [], out)
 }
 
 // A line ends: answers it, prints the answer and starts the next one.
@@ -153,10 +149,18 @@ fn end_line(s: Reader, line: &[u8], memory: &mut [u32], out: &mut [u8]) -> Reade
     ensures out_after { state_of result line.now memory.new out.new ≡ ended rehearsing (state_of s line.now memory.old out.old) }
     ensures held { Held result line.now memory.new out.new }
 {
-    if s.phase == 1 {
-        return end_run_line(s, line, memory, out);
+    if s.phase == Phase::RunFile {
+        end_run_line(s, line, memory, out)
+    } else {
+        end_module_line(s, line, memory, out)
     }
-    end_module_line(s, line, memory, out)
+}
+
+// Whether lines are still read: none is after the last that is read, or once the program has ended.
+fn takes_lines(s: Reader) -> bool
+    ensures { result ≡ ltb s.number 99999 && is_open s.phase }
+{
+    s.number < LINES && s.phase != Phase::Ended
 }
 
 // Takes the LF after the bytes of a line.
@@ -165,61 +169,43 @@ fn take_lf(s: Reader, line: &[u8], memory: &mut [u32], out: &mut [u8]) -> Reader
     ensures out_after { state_of result line.now memory.new out.new ≡ step rehearsing (state_of s line.now memory.old out.old) 10 }
     ensures held { Held result line.now memory.new out.new }
 {
-    if s.number >= LINES {
-        return s;
+    if takes_lines(s) {
+        end_line(s, line, memory, out)
+    } else {
+        s
     }
-    if s.phase >= 2 {
-        return s;
-    }
-    end_line(s, line, memory, out)
 }
 
 // Takes bytes of a line, none of which is LF.
 fn take_span(s: Reader, span: &[u8], line: &mut [u8]) -> Reader
-    requires fill_bound { (s.fill ≤ 81) × (length line.old ≡ 81) }
+    requires bounds { (s.fill ≤ 81) × (length line.old ≡ 81) }
     requires no_lf { NoLf span.now }
-    ensures by_index { (m o : List ℕ) → state_of result line.new m o ≡ feed rehearsing (state_of s line.old m o) span.now }
-    ensures fill_bound_2 { (result.fill ≤ 81) × (result.at ≡ s.at) }
+    ensures state { (m o : List ℕ) → state_of result line.new m o ≡ feed rehearsing (state_of s line.old m o) span.now }
+    ensures counts { (result.fill ≤ 81) × (result.at ≡ s.at) }
 {
-    if s.number >= LINES {
+    if !takes_lines(s) {
         return s;
     }
-    if s.phase >= 2 {
-        return s;
-    }
-    let fill = s.fill;
-    let next = lines::keep(line, fill, span);
-    Reader {
-        fill: next,
-        number: s.number,
-        phase: s.phase,
-        previous: s.previous,
-        at: s.at,
-    }
+    let fill = lines::keep(line, s.fill, span);
+    Reader { fill, ..s }
 }
 
 // Takes a line of n bytes at the front of text, none of which was taken before, and its LF. The line is read where it stands: the first bytes of text serve
 // as the line buffer.
 fn take_in_place(s: Reader, text: &[u8], n: usize, memory: &mut [u32], out: &mut [u8]) -> Reader
-    requires fill_value { (s.fill ≡ 0) × (81 ≤ length text.now) × (n ≤ length text.now) × (s.at + 8258 ≤ length out.old) }
+    requires bounds { (s.fill ≡ 0) × (81 ≤ length text.now) × (n ≤ length text.now) × (s.at + 8258 ≤ length out.old) }
     requires fit_crate { FitCrate memory.old }
     requires no_lf { NoLf (take n text.now) }
-    ensures by_index { (l : List ℕ) → state_of result l memory.new out.new ≡ step rehearsing (feed rehearsing (state_of s l memory.old out.old) (take n text.now)) 10 }
-    ensures fill_value_2 { (result.fill ≡ 0) × (result.at ≤ length out.new) }
-    ensures fit_crate_2 { FitCrate memory.new }
+    ensures state { (l : List ℕ) → state_of result l memory.new out.new ≡ step rehearsing (feed rehearsing (state_of s l memory.old out.old) (take n text.now)) 10 }
+    ensures counts { (result.fill ≡ 0) × (result.at ≤ length out.new) }
+    ensures fit { FitCrate memory.new }
 {
-    if s.number >= LINES {
-        return s;
-    }
-    if s.phase >= 2 {
+    if !takes_lines(s) {
         return s;
     }
     let whole = Reader {
-        fill: least(n, LINE_BYTES),
-        number: s.number,
-        phase: s.phase,
-        previous: s.previous,
-        at: s.at,
+        fill: n.min(LINE_BYTES),
+        ..s
     };
     end_line(whole, &text[..LINE_BYTES], memory, out)
 }
@@ -236,15 +222,12 @@ fn take_line(
 ) -> Reader
     requires ready { Ready s line.old memory.old out.old }
     requires next_lf { NextLf text.now 0 n }
-    requires n_in_bounds { n < length text.now }
+    requires n_bound { n < length text.now }
     ensures out_after { state_of result line.new memory.new out.new ≡ feed rehearsing (state_of s line.old memory.old out.old) (take (n + 1) text.now) }
     ensures held { Held result line.new memory.new out.new }
 {
-    let fill = s.fill;
-    if fill == 0 {
-        if text.len() >= LINE_BYTES {
-            return take_in_place(s, text, n, memory, out);
-        }
+    if s.fill == 0 && text.len() >= LINE_BYTES {
+        return take_in_place(s, text, n, memory, out);
     }
     let r = take_span(s, &text[..n], line);
     take_lf(r, line, memory, out)
@@ -268,17 +251,15 @@ pub fn chunk_lines(
     requires { Held s line.old memory.old out.old }
     ensures out_after { state_of result.reader line.new memory.new out.new ≡ feed rehearsing (state_of s line.old memory.old out.old) (take result.next text.now) }
     ensures held { Held result.reader line.new memory.new out.new }
-    ensures next_in_bounds { result.next ≤ length text.now }
-    ensures next_nonzero { s.at + 8258 ≤ length out.old → 0 < length text.now → 0 < result.next }
+    ensures within { result.next ≤ length text.now }
+    ensures takes_some { s.at + 8258 ≤ length out.old → 0 < length text.now → 0 < result.next }
 {
     let mut r = s;
     let mut i = 0;
+    // A `while`: a turn goes on behind the line that it took.
     while i < text.len() {
-        if out.len() < STEP_ROOM {
-            return Progress { next: i, reader: r };
-        }
-        if r.at > out.len() - STEP_ROOM {
-            return Progress { next: i, reader: r };
+        if out.len() < STEP_ROOM || r.at > out.len() - STEP_ROOM {
+            break;
         }
         let e = find_lf(text, i);
         if e == text.len() {
@@ -297,14 +278,9 @@ pub fn finish(s: Reader, line: &[u8], memory: &mut [u32], out: &mut [u8]) -> Rea
     ensures out_after { state_of result line.now memory.new out.new ≡ closed rehearsing (state_of s line.now memory.old out.old) }
     ensures held { Held result line.now memory.new out.new }
 {
-    if s.number >= LINES {
-        return s;
+    if takes_lines(s) && s.fill > 0 {
+        end_line(s, line, memory, out)
+    } else {
+        s
     }
-    if s.phase >= 2 {
-        return s;
-    }
-    if s.fill == 0 {
-        return s;
-    }
-    end_line(s, line, memory, out)
 }

@@ -13,7 +13,7 @@ fn main(rt: HostRuntime) {
     let mut out = [0u8; 4096];
     let mut first_path = [0u8; 4096];
     let mut second_path = [0u8; 4096];
-    let files = shell::files_named(
+    let Some(files) = shell::files_named(
         &rt,
         &err,
         b"run.txt",
@@ -21,17 +21,14 @@ fn main(rt: HostRuntime) {
         b"usage: regrouped                 compares regrouped.txt with run.txt in the current folder\n       regrouped FIRST SECOND    compares the second file with the first; a file -x is named ./-x\n",
         &mut first_path,
         &mut second_path,
-    );
-    if !files.ok {
+    ) else {
         return;
-    }
-    let m = files.first;
-    let n = files.second;
-    regrouping::compare_files(
+    };
+    let _ = regrouping::compare_files(
         &rt,
         &err,
-        &first_path[..m],
-        &second_path[..n],
+        &first_path[..files.first],
+        &second_path[..files.second],
         &mut text,
         &mut line,
         &mut first,

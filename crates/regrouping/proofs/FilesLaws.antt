@@ -1,21 +1,19 @@
 -- From the words of two files to what is told of the two files, and what a step of such words is.
 -- Assumes nothing.
-use Prim.Native.Nat.{ℕ, ◌*◌, ◌≤◌, ◌<◌}
+use Prim.Native.Nat.{ℕ, ◌*◌, ◌<◌}
 use mathlib.Core.Path.{◌≡◌, refl, sym, ap, subst}
-use mathlib.Core.Bool.{true, false}
+use mathlib.Core.Bool.{true}
 use mathlib.Core.Logic.{inl, inr}
 use mathlib.Core.List.{List, []}
 use native.Mathlib.Omega.{arith}
-use borrow.Author.Tests.{lt-ltb, le-ltb, eq-eqb, ne_eqb}
 use lib.ListN.{length, get_or, take}
-use lib.Seq.{length-take-le}
 use Rattle.runfile.specs.Read.{read_line}
 use Rattle.lines.specs.Lines.{lines_of}
 use Rattle.text.proofs.Paste.{put_first}
 use Rattle.listfile.specs.ListWords.{file_words}
 use Rattle.listfile.proofs.WordLaws.{list_count, list-step}
 use Rattle.shell.specs.Handed.{Stored}
-use Rattle.verdict.specs.Counted.{counted, count, step_at, refused_in}
+use Rattle.verdict.specs.Counted.{counted, count, step_at}
 use Rattle.report.specs.Report.{Report}
 use Rattle.regrouping.specs.Files.{heard, PutAnswer, Answered}
 
@@ -25,24 +23,6 @@ file-count file = omega (arith, list_count file)
 
 pub file-step : (file : List ℕ) (k : ℕ) → k < length (lines_of file) → step_at (file_words file) k ≡ counted (read_line (get_or (lines_of file) k []))
 file-step file k h = ap counted (list-step file k h)
-
--- so many steps
-pub stored-words : {many : ℕ} {w : List ℕ} → length w ≡ 599994 → Stored many w → 6 * many ≤ length w
-stored-words h s = omega (arith, s.few, h)
-
-pub stored-count : {many : ℕ} {w : List ℕ} → length w ≡ 599994 → Stored many w → count (take (6 * many) w) ≤ 99999
-stored-count {many} {w} h s = omega (arith, s.few, length-take-le (6 * many) w (omega (arith, s.few, h)))
-
--- ---- whether a list is heard
-
-pub heard-none : (ws : List ℕ) → count ws ≡ 0 → heard ws ≡ true
-heard-none ws h = rw (eq-eqb (count ws) 0 h)
-
-pub heard-some : (ws : List ℕ) → refused_in ws < count ws → heard ws ≡ true
-heard-some ws h = rw (ne_eqb (count ws) 0 (λ e. omega (arith, h, e)), lt-ltb (refused_in ws) (count ws) h)
-
-pub unheard : (ws : List ℕ) → (count ws ≡ 0 → ⊥) → count ws ≤ refused_in ws → heard ws ≡ false
-unheard ws some all = rw (ne_eqb (count ws) 0 some, le-ltb (refused_in ws) (count ws) all)
 
 -- ---- what is told of two lists is told of their files
 

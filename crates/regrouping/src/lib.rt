@@ -2,13 +2,13 @@
 // verdict.
 #![tactic(auto)]
 
-ghost use Rattle.std.specs.Prelude.{◌≡◌, ◌≤◌, length, take};
+ghost use Rattle.std.specs.Prelude.{◌≡◌, ◌≤◌, false, true, length, take, MatchOption, MatchResult};
 ghost use Rattle.text.specs.Paste.{Put};
 ghost use Rattle.verdict.specs.Counted.{count, refused_in};
 ghost use Rattle.regrouping.specs.Files.{heard, PutAnswer, Answered, refused_text};
 
 use lists::STEP_WORDS;
-use shell::Told;
+use shell::Unwritten;
 use std::rt::Files;
 use text::{put_bytes, put_field};
 
@@ -29,52 +29,37 @@ fn put_refused(out: &mut [u8], many: u32, all: u32) -> usize
     )
 }
 
-// Says how many lines of a file are refused, if any are.
-fn say_refused(err: &impl Print, path: &[u8], many: u32, all: u32) {
-    if many == 0 {
-        return;
-    }
-    let mut said = [0u8; 128];
-    let end = put_refused(&mut said, many, all);
-    let _ = err.write_all(path);
-    let _ = err.write_all(&said[..end]);
-}
-
-// How many lines of a file are refused, of how many; heard unless it has lines and all of them are refused.
+// How many lines of a file are refused, of how many.
 #[derive(Clone, Copy)]
 struct Lines {
     refused: u32,
     all: u32,
-    heard: bool,
 }
 
-// Counts the refused lines of a file. Where it is not heard, says so.
-fn hear(err: &impl Print, path: &[u8], words: &[u32]) -> Lines
+// Says how many lines of a file are refused, if any are.
+fn say_refused(err: &impl Print, path: &[u8], lines: Lines) {
+    if lines.refused == 0 {
+        return;
+    }
+    let mut said = [0u8; 128];
+    let end = put_refused(&mut said, lines.refused, lines.all);
+    let _ = err.write_all(path);
+    let _ = err.write_all(&said[..end]);
+}
+
+// Counts the refused lines of a file. Where it has lines and all of them are refused, it is not heard, and that is said.
+fn hear(err: &impl Print, path: &[u8], words: &[u32]) -> Option<Lines>
     requires { count words.now ≤ 99999 }
-    ensures { (result.refused ≡ refused_in words.now) × (result.all ≡ count words.now) × (result.heard ≡ heard words.now) }
+    ensures { MatchOption result (heard words.now ≡ false) (λ l. (l.refused ≡ refused_in words.now) × (l.all ≡ count words.now) × (heard words.now ≡ true)) }
 {
     let refused = verdict::refused(words) as u32;
     let all = (words.len() / STEP_WORDS) as u32;
-    if all == 0 {
-        return Lines {
-            refused: refused,
-            all: all,
-            heard: true,
-        };
+    let lines = Lines { refused, all };
+    if all == 0 || refused < all {
+        return Some(lines);
     }
-    if refused < all {
-        return Lines {
-            refused: refused,
-            all: all,
-            heard: true,
-        };
-    }
-    say_refused(err, path, refused, all);
-    Lines {
-        refused: refused,
-        all: all,
-        heard: false,
-    }
+    say_refused(err, path, lines);
+    None
 }
 
 // Prints the report on two lists, if both are heard, and says how many lines are refused.
@@ -86,20 +71,17 @@ fn tell(
     second_path: &[u8],
     second: &[u32],
     out: &mut [u8],
-) -> Told
+) -> Result<usize, Unwritten>
     requires { (count first.now ≤ 99999) × (count second.now ≤ 99999) × (4096 ≤ length out.old) }
-    ensures { PutAnswer first.now second.now out.old out.new result.at }
+    ensures { MatchResult result (PutAnswer first.now second.now out.old out.new) (λ u. PutAnswer first.now second.now out.old out.new u.at) }
 {
     let old = hear(err, first_path, first);
     let new = hear(err, second_path, second);
-    if !old.heard {
-        return Told { ok: true, at: 0 };
-    }
-    if !new.heard {
-        return Told { ok: true, at: 0 };
-    }
-    say_refused(err, first_path, old.refused, old.all);
-    say_refused(err, second_path, new.refused, new.all);
+    let (Some(old), Some(new)) = (old, new) else {
+        return Ok(0);
+    };
+    say_refused(err, first_path, old);
+    say_refused(err, second_path, new);
     let at = report::put_report(first, second, out);
     shell::write_out(rt, err, out, at, b"the report")
 }
@@ -116,20 +98,20 @@ pub fn compare_files<R: Files + Print>(
     first: &mut [u32],
     second: &mut [u32],
     out: &mut [u8],
-) -> Told
+) -> Result<usize, Unwritten>
     requires { (length line.old ≡ 81) × (length first.old ≡ 599994) × (length second.old ≡ 599994) × (4096 ≤ length out.old) }
-    ensures { Answered (take result.at out.new) }
+    ensures { MatchResult result (λ n. Answered (take n out.new)) (λ u. Answered (take u.at out.new)) }
 {
     let old = shell::take_list(rt, err, first_path, text, line, first);
     let new = shell::take_list(rt, err, second_path, text, line, second);
-    if !old.whole {
-        return Told { ok: true, at: 0 };
-    }
-    if !new.whole {
-        return Told { ok: true, at: 0 };
-    }
-    let p = STEP_WORDS * old.count;
-    let q = STEP_WORDS * new.count;
+    let Some(old) = old else {
+        return Ok(0);
+    };
+    let Some(new) = new else {
+        return Ok(0);
+    };
+    let p = STEP_WORDS * old;
+    let q = STEP_WORDS * new;
     tell(
         rt,
         err,

@@ -13,12 +13,12 @@ use Rattle.dataway.specs.Crate.{is_fit_crate}
 use Rattle.dataway.proofs.CrateLaws.{crate-facts}
 use Rattle.step.specs.Refusals.{verdict_number}
 use Rattle.step.specs.declared.Refusal.TheVariants.{ShortBuffer, UnfitCrate}
-use Rattle.step.specs.declared.Verdict.{Verdict}
 use Rattle.controller.specs.Answers.{answer_words}
 use Rattle.controller.specs.Steps.{Order, Performed, performed, refused, done_of, step_of, gives}
 use Rattle.controller.specs.declared.Answer.{Answer}
 use Rattle.controller.proofs.StepLaws.{step-done}
 use Rattle.lists.specs.Runs.{answer_of, Ran, ran_of, unrun, is_enough, list_of}
+use Rattle.step.specs.Results.{Verdict}
 
 -- ---- one step
 pub step-unfit : (m : List ℕ) (o : Order) → is_fit_crate m ≡ false → step_of m o ≡ refused UnfitCrate m o.buffer

@@ -9,12 +9,11 @@ use Rattle.dataway.proofs.CrateLaws.{facts-crate}
 use Rattle.step.specs.Refusals.{verdict_number}
 use Rattle.step.specs.declared.Refusal.{Refusal}
 use Rattle.step.specs.declared.Refusal.TheVariants.{UnfitCrate}
-use Rattle.step.specs.declared.ModuleLine.{ModuleLine}
-use Rattle.step.specs.declared.ModuleLine.TheVariants.{Bad}
-use Rattle.step.specs.declared.Verdict.{Verdict}
 use Rattle.controller.specs.Placing.{Installed, uninstalled, place_of}
 use Rattle.controller.proofs.PlacingLaws.{place-fit}
 use Rattle.rehearsal.specs.Modules.{install_of}
+use Rattle.std.specs.Prelude.{Err}
+use Rattle.step.specs.Results.{ModuleLine, Verdict}
 
 module _ (m : List ℕ) (previous : ℕ) where
   pub install-unfit : (l : ModuleLine) → is_fit_crate m ≡ false → install_of m previous l ≡ uninstalled UnfitCrate m
@@ -25,7 +24,7 @@ module _ (m : List ℕ) (previous : ℕ) where
   unfolding install_of
   install-fit l k i t e h = rw (t, e) h
 
-  pub install-bad : (l : ModuleLine) (q : Refusal) → is_fit_crate m ≡ true → l ≡ Bad q → install_of m previous l ≡ uninstalled q m
+  pub install-bad : (l : ModuleLine) (q : Refusal) → is_fit_crate m ≡ true → l ≡ Err q → install_of m previous l ≡ uninstalled q m
   unfolding install_of place_of
   install-bad l q t e = rw (t, e)
 

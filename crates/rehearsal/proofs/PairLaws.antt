@@ -16,8 +16,6 @@ use Rattle.dataway.specs.Crate.{is_fit_crate, FitCrate}
 use Rattle.dataway.proofs.CrateLaws.{crate-facts}
 use Rattle.step.specs.declared.Refusal.{Refusal}
 use Rattle.step.specs.declared.Refusal.TheVariants.{ShortBuffer, UnfitCrate}
-use Rattle.step.specs.declared.Verdict.{Verdict}
-use Rattle.step.specs.declared.Verdict.TheVariants.{Fine, Refuse}
 use Rattle.controller.specs.Steps.{Order, Out, leaves, gives, touches}
 use Rattle.controller.specs.Regrouping.{beyond}
 use Rattle.controller.proofs.StepLaws.{law, crate-regroup}
@@ -25,6 +23,8 @@ use Rattle.lists.specs.Words.{part, orders_of}
 use Rattle.lists.specs.Runs.{joined, answer_of, buffer_of, Ran, ran_of, unrun, is_enough, list_of}
 use Rattle.lists.proofs.Orders.{Long, part_of, answers-long, buffers-long, orders-long, orders-length}
 use Rattle.rehearsal.specs.Pairs.{RearrangedWords, AlikeWords}
+use Rattle.std.specs.Prelude.{Ok, Err}
+use Rattle.step.specs.Results.{Verdict}
 
 -- ---- a run that was not refused
 module _ (m : List ℕ) (count : ℕ) (ws ans bs m' ans' bs' : List ℕ) (v : Verdict) where
@@ -54,10 +54,10 @@ module _ (m : List ℕ) (count : ℕ) (ws ans bs m' ans' bs' : List ℕ) (v : Ve
     buffers = sym (ap (λ (r : Ran). r.buffers) e);
   }
 
-  never : (q : Refusal) → v ≡ Fine → unrun q m ans bs ≡ result → Went
-  never q z h = absurd (let w : Refuse q ≡ Fine = ap (λ (r : Ran). r.verdict) h ∙ z in let n : ◌≡◌ {A = ℕ} 0 1 = cc in omega arith)
+  never : (q : Refusal) → v ≡ Ok tt → unrun q m ans bs ≡ result → Went
+  never q z h = absurd (let w : Err q ≡ (Ok tt) = ap (λ (r : Ran). r.verdict) h ∙ z in let n : ◌≡◌ {A = ℕ} 0 1 = cc in omega arith)
 
-  pub list-went : list_of m count ws ans bs ≡ result → v ≡ Fine → Went
+  pub list-went : list_of m count ws ans bs ≡ result → v ≡ Ok tt → Went
   unfolding list_of
   list-went e z = go (is_fit_crate m) (is_enough count ws ans bs) refl refl e
     where

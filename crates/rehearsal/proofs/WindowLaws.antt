@@ -19,13 +19,10 @@ use Rattle.step.specs.Verdict.{places_of, window_then, room_then, within_verdict
 use Rattle.step.proofs.Numbers.{number-injective}
 use Rattle.step.specs.declared.Refusal.TheVariants.{UnfitCrate}
 use Rattle.step.specs.declared.Step.TheVariants.{Within}
-use Rattle.step.specs.declared.Verdict.{Verdict}
-use Rattle.step.specs.declared.Verdict.TheVariants.{Fine, Refuse}
 use Rattle.windows.specs.Within.{is_inside}
 use Rattle.windows.specs.Found.{Found}
 use Rattle.windows.specs.Flags.{windows_in, low_of, high_of, flag_of, flags_of, read_of}
 use Rattle.windows.specs.Sheets.{FlaggedSheet, unflagged, flagged, sheet_verdict, judged_sheet, sheet_of, GoodSheet}
-use Rattle.windows.specs.declared.sheets.Flagging.TheVariants.{Flagged}
 use Rattle.windows.proofs.FoundLaws.{inside_found}
 use Rattle.windows.proofs.FlagLaws.{flag-bit, flag-clear, flags-at, reads_all}
 use Rattle.windows.proofs.SheetLaws.{windows-bad, windows-past, sheet-fine, sheet-windows, good-fine, flags_long, each-window, refused-flagged}
@@ -38,6 +35,8 @@ use Rattle.controller.proofs.StepLaws.{step-done}
 use Rattle.controller.proofs.Sentences.{is_refused}
 use Rattle.controller.proofs.ListingLaws.{listing-done}
 use Rattle.rehearsal.specs.Windows.{sheet_call, SheetDone, SheetFlags, SheetListings, SheetReads, FirstBad}
+use Rattle.std.specs.Prelude.{Ok, Err}
+use Rattle.step.specs.Results.{Verdict}
 
 -- ---- the two ways
 module _ (m : List ℕ) (n to : ℕ) (sheet flags : List ℕ) where
@@ -56,15 +55,15 @@ module _ (m : List ℕ) (n to : ℕ) (sheet flags : List ℕ) where
       sheet-fits (flagged m n to sheet flags) (facts-crate m f)
       (ap (λ (v : Verdict). judged_sheet v m n to sheet flags) (good-fine n to sheet (length flags) g))
 
-  module _ (count : ℕ) (h : (sheet_call m n to sheet flags).answer ≡ Flagged count) where
+  module _ (count : ℕ) (h : (sheet_call m n to sheet flags).answer ≡ Ok count) where
     fit-good : FitCrate m × GoodSheet n to sheet (length flags)
     unfolding sheet_call sheet_of
     fit-good = go (is_fit_crate m) (sheet_verdict n to sheet (length flags)) refl refl h
       where
         go : (t : Bool) (v : Verdict) → is_fit_crate m ≡ t → sheet_verdict n to sheet (length flags) ≡ v
-            → (cond t (judged_sheet v m n to sheet flags) (unflagged UnfitCrate flags)).answer ≡ Flagged count → FitCrate m × GoodSheet n to sheet (length flags)
-        go true Fine f e a = (crate-facts m f, sheet-fine n to sheet (length flags) e)
-        go true (Refuse q) f e a = refused-flagged q count a
+            → (cond t (judged_sheet v m n to sheet flags) (unflagged UnfitCrate flags)).answer ≡ Ok count → FitCrate m × GoodSheet n to sheet (length flags)
+        go true (Ok _) f e a = (crate-facts m f, sheet-fine n to sheet (length flags) e)
+        go true (Err q) f e a = refused-flagged q count a
         go false v f e a = refused-flagged UnfitCrate count a
 
     did : sheet_call m n to sheet flags ≡ flagged m n to sheet flags
@@ -159,7 +158,7 @@ sheet-reads m n to sheet flags count h b r =
     ∙ ap Listed (sym (reads_all m g.0 n to s.0 s.1 s.2) ∙ counted m n to sheet flags count h)
 
 -- a listing whose stations and buffer are good is judged by its window
-listing-window : (n to lo hi lent : ℕ) → (1 ≤ n) × (n ≤ to) × (to ≤ 23) → 16 * (to - n + 1) ≤ lent → within_verdict n to lo hi lent ≡ window_then lo hi Fine
+listing-window : (n to lo hi lent : ℕ) → (1 ≤ n) × (n ≤ to) × (to ≤ 23) → 16 * (to - n + 1) ≤ lent → within_verdict n to lo hi lent ≡ window_then lo hi (Ok tt)
 unfolding within_verdict
 listing-window n to lo hi lent (a, b, c) r =
     rw (le-leb 1 n a, le-leb n 23 (omega arith), le-leb n to b, le-leb to 23 c, le-leb (16 * (to + 1 - n)) lent (omega arith))
@@ -169,15 +168,15 @@ unfolding done_of sheet_of
 first-bad m n to sheet flags f s e w i h g b r q a =
     let lo = low_of sheet i in
     let hi = high_of sheet i in
-    let verdict : within_verdict n to lo hi (length b) ≡ Refuse q = judged (within_verdict n to lo hi (length b)) refl
+    let verdict : within_verdict n to lo hi (length b) ≡ Err q = judged (within_verdict n to lo hi (length b)) refl
     (ap (λ (p : Performed). p.out.answer) (sym (step-done m (listing n to lo hi b) f)) ∙ a) in
-    let room : Verdict = room_then n to (length flags) Fine in
+    let room : Verdict = room_then n to (length flags) (Ok tt) in
     sheet-fits m n to sheet flags (unflagged q flags) (facts-crate m f)
     (ap (λ (v : Verdict). judged_sheet v m n to sheet flags)
     (sheet-windows n to sheet (length flags) s e w
     ∙ windows-bad sheet room i h (windows-past sheet room i (omega arith) g) q (sym (listing-window n to lo hi (length b) s r) ∙ verdict)))
   where
     judged : (v : Verdict) → within_verdict n to (low_of sheet i) (high_of sheet i) (length b) ≡ v
-        → (judged_of v m (Within n to (low_of sheet i) (high_of sheet i)) b).out.answer ≡ Refused q → within_verdict n to (low_of sheet i) (high_of sheet i) (length b) ≡ Refuse q
-    judged Fine t x = absurd (false≢true (ap is_refused x))
-    judged (Refuse p) t x = t ∙ ap Refuse (number-injective p q (ap (λ (y : Answer). get_or (answer_words y) 1 0) x))
+        → (judged_of v m (Within n to (low_of sheet i) (high_of sheet i)) b).out.answer ≡ Refused q → within_verdict n to (low_of sheet i) (high_of sheet i) (length b) ≡ Err q
+    judged (Ok _) t x = absurd (false≢true (ap is_refused x))
+    judged (Err p) t x = t ∙ ap Err (number-injective p q (ap (λ (y : Answer). get_or (answer_words y) 1 0) x))

@@ -2,8 +2,8 @@
 use Rattle.std.specs.Prelude.{ℕ, cond, List}
 use Rattle.dataway.specs.Crate.{is_fit_crate}
 use Rattle.step.specs.declared.Refusal.TheVariants.{UnfitCrate}
-use Rattle.step.specs.declared.ModuleLine.{ModuleLine}
 use Rattle.controller.specs.Placing.{Installed, uninstalled, place_of}
+use Rattle.step.specs.Results.{ModuleLine}
 
 -- a crate line on any memory: first 9
 unfoldable pub install_of : List ℕ → (previous : ℕ) → ModuleLine → Installed

@@ -1,5 +1,5 @@
 -- A sheet of windows on any memory (RULES 4.27 to 4.29, 6.30, 6.31), and what users rely on.
-use Rattle.std.specs.Prelude.{ℕ, ◌+◌, ◌-◌, ◌*◌, ◌%◌, ◌≤◌, ◌<◌, ◌≡◌, cond, List, length, get_or, take, drop}
+use Rattle.std.specs.Prelude.{ℕ, ◌+◌, ◌-◌, ◌*◌, ◌%◌, ◌≤◌, ◌<◌, ◌≡◌, cond, List, length, get_or, take, drop, Ok}
 use Rattle.word24.specs.Word.{bit_of}
 use Rattle.dataway.specs.Crate.{is_fit_crate, FitCrate}
 use Rattle.step.specs.Verdict.{places_of}
@@ -8,7 +8,6 @@ use Rattle.step.specs.declared.Refusal.TheVariants.{UnfitCrate}
 use Rattle.windows.specs.Found.{Found}
 use Rattle.windows.specs.Flags.{windows_in, low_of, high_of, flagged_by}
 use Rattle.windows.specs.Sheets.{FlaggedSheet, unflagged, flagged, sheet_of, GoodWindow, GoodSheet}
-use Rattle.windows.specs.declared.sheets.Flagging.TheVariants.{Flagged}
 use Rattle.controller.specs.Steps.{listed, step_of, gives}
 use Rattle.controller.specs.Listings.{listing}
 use Rattle.controller.specs.declared.Answer.TheVariants.{Listed, Refused}
@@ -22,7 +21,7 @@ sheet_call m n to sheet flags = cond (is_fit_crate m) (sheet_of m n to sheet fla
 pub record SheetDone : Type 0 where
   pub done : (m : List ℕ) (n to : ℕ) (sheet flags : List ℕ) → FitCrate m → GoodSheet n to sheet (length flags)
       → sheet_call m n to sheet flags ≡ flagged m n to sheet flags
-  pub only : (m : List ℕ) (n to : ℕ) (sheet flags : List ℕ) (count : ℕ) → (sheet_call m n to sheet flags).answer ≡ Flagged count
+  pub only : (m : List ℕ) (n to : ℕ) (sheet flags : List ℕ) (count : ℕ) → (sheet_call m n to sheet flags).answer ≡ Ok count
       → FitCrate m × GoodSheet n to sheet (length flags)
 
 -- the flag words after a call, where they were `before`
@@ -39,19 +38,19 @@ pub record Flags (m : List ℕ) (n to : ℕ) (sheet before after : List ℕ) : T
 
 -- EVERY CALL THAT IS NOT REFUSED flags so
 abbrev pub SheetFlags : Type 0
-SheetFlags = (m : List ℕ) (n to : ℕ) (sheet flags : List ℕ) (count : ℕ) → (sheet_call m n to sheet flags).answer ≡ Flagged count
+SheetFlags = (m : List ℕ) (n to : ℕ) (sheet flags : List ℕ) (count : ℕ) → (sheet_call m n to sheet flags).answer ≡ Ok count
     → Flags m n to sheet flags (sheet_call m n to sheet flags).flags
 
 -- A SHEET FINDS WHAT ITS LISTINGS FIND: on the same crate a listing with window i, lent 16 words a station, is done, and lists the registers that window i flags
 abbrev pub SheetListings : Type 0
-SheetListings = (m : List ℕ) (n to : ℕ) (sheet flags : List ℕ) (count : ℕ) → (sheet_call m n to sheet flags).answer ≡ Flagged count
+SheetListings = (m : List ℕ) (n to : ℕ) (sheet flags : List ℕ) (count : ℕ) → (sheet_call m n to sheet flags).answer ≡ Ok count
     → (i : ℕ) → i < windows_in sheet → (b : List ℕ) → 16 * (to - n + 1) ≤ length b
     → step_of m (listing n to (low_of sheet i) (high_of sheet i) b)
     ≡ listed (flagged_by i (16 * n) (take (places_of n to) (sheet_call m n to sheet flags).flags)) m b
 
 -- EACH REGISTER IS READ ONCE, WHATEVER THE WINDOWS ARE: a listing of all values lists as many as were read
 abbrev pub SheetReads : Type 0
-SheetReads = (m : List ℕ) (n to : ℕ) (sheet flags : List ℕ) (count : ℕ) → (sheet_call m n to sheet flags).answer ≡ Flagged count
+SheetReads = (m : List ℕ) (n to : ℕ) (sheet flags : List ℕ) (count : ℕ) → (sheet_call m n to sheet flags).answer ≡ Ok count
     → (b : List ℕ) → 16 * (to - n + 1) ≤ length b → (gives m (listing n to 0 16777215 b)).answer ≡ Listed count
 
 -- THE FIRST BAD WINDOW DECIDES: with good stations and a sheet of good length, where the windows before window i are good and a listing with window i is

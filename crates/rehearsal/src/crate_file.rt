@@ -7,20 +7,17 @@ ghost use Rattle.rehearsal.specs.Modules.{install_of};
 
 use controller::placing::place;
 use dataway::fitness::is_fit_crate;
-use step::{ModuleLine, Refusal, Verdict};
+use step::Refusal;
 
 // One line of a crate file, after a line for the station `previous` (0 before the first): 9, then 1, 2, 11, 12, 10, else the module is put in.
 // `number` tells the verdict by its number, 0 where nothing is sent back.
-pub fn crate_line(memory: &mut [u32], previous: u32, line: &[u8]) -> Verdict
+pub fn crate_line(memory: &mut [u32], previous: u32, line: &[u8]) -> Result<(), Refusal>
     ensures placed { install_of memory.old previous (read_module line.now) ≡ record { verdict = result; memory = memory.new } }
     ensures number { verdict_number result ≡ verdict_number (install_of memory.old previous (read_module line.now)).verdict }
 {
     if !is_fit_crate(memory) {
-        return Verdict::Refuse(Refusal::UnfitCrate);
+        return Err(Refusal::UnfitCrate);
     }
-    let read = runfile::read_module(line);
-    match read {
-        ModuleLine::Holds(held) => place(memory, previous, held),
-        ModuleLine::Bad(q) => Verdict::Refuse(q),
-    }
+    let held = runfile::read_module(line)?;
+    place(memory, previous, held)
 }

@@ -5,7 +5,7 @@ ghost use Rattle.lists.specs.Runs.{Ran, list_of};
 
 use dataway::fitness::is_fit_crate;
 use lists::{ANSWER_WORDS, BUFFER_WORDS, STEP_WORDS};
-use step::{Refusal, Verdict};
+use step::Refusal;
 
 // A list of `count` steps, six words each, with 512 words of buffer and four words of answer a step: 9 for the whole run, then 8 where too few words are
 // lent, else each step in turn. Words past theirs keep their contents. `number` tells the verdict by its number.
@@ -15,24 +15,24 @@ pub fn run_list(
     steps: &[u32],
     answers: &mut [u32],
     buffers: &mut [u32],
-) -> Verdict
+) -> Result<(), Refusal>
     ensures ran { list_of memory.old count steps.now answers.old buffers.old
         ≡ record { verdict = result; memory = memory.new; answers = answers.new; buffers = buffers.new } }
     ensures number { verdict_number result
         ≡ verdict_number (list_of memory.old count steps.now answers.old buffers.old).verdict }
 {
     if !is_fit_crate(memory) {
-        return Verdict::Refuse(Refusal::UnfitCrate);
+        return Err(Refusal::UnfitCrate);
     }
     if steps.len() / STEP_WORDS < count {
-        return Verdict::Refuse(Refusal::ShortBuffer);
+        return Err(Refusal::ShortBuffer);
     }
     if answers.len() / ANSWER_WORDS < count {
-        return Verdict::Refuse(Refusal::ShortBuffer);
+        return Err(Refusal::ShortBuffer);
     }
     if buffers.len() / BUFFER_WORDS < count {
-        return Verdict::Refuse(Refusal::ShortBuffer);
+        return Err(Refusal::ShortBuffer);
     }
     lists::run_steps(memory, count, steps, answers, buffers);
-    Verdict::Fine
+    Ok(())
 }

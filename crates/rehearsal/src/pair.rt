@@ -1,18 +1,17 @@
 // Demand 3 on the running calls: two lists on two crates.
-ghost use Rattle.std.specs.Prelude.{◌≡◌, List, ℕ};
-ghost use Rattle.step.specs.declared.Verdict.{Verdict};
+ghost use Rattle.std.specs.Prelude.{◌≡◌, List, ℕ, Ok};
 ghost use Rattle.lists.specs.Words.{orders_of};
 ghost use Rattle.lists.specs.Runs.{Ran, list_of};
 ghost use Rattle.rehearsal.specs.Pairs.{RearrangedWords, AlikeWords};
 
 use crate::list::run_list;
-use step::Verdict;
+use step::Refusal;
 
 // The verdicts on the two runs.
 #[derive(Clone, Copy)]
 pub struct Pair {
-    pub first: Verdict,
-    pub second: Verdict,
+    pub first: Result<(), Refusal>,
+    pub second: Result<(), Refusal>,
 }
 
 // Runs two lists, each on its own crate. Where the crates are equal at first, both lists are run and the second is a rearrangement of the first, the
@@ -33,7 +32,7 @@ pub fn run_pair(
         ≡ record { verdict = result.first; memory = m1.new; answers = a1.new; buffers = b1.new } }
     ensures second { list_of m2.old c2 s2.now a2.old b2.old
         ≡ record { verdict = result.second; memory = m2.new; answers = a2.new; buffers = b2.new } }
-    ensures alike { m2.old ≡ m1.old → result.first ≡ Verdict.Fine → result.second ≡ Verdict.Fine → (p : List ℕ)
+    ensures alike { m2.old ≡ m1.old → result.first ≡ (Ok tt) → result.second ≡ (Ok tt) → (p : List ℕ)
         → RearrangedWords (orders_of s1.now b1.old c1) (orders_of s2.now b2.old c2) p
         → AlikeWords (record { verdict = result.first; memory = m1.new; answers = a1.new; buffers = b1.new })
         (record { verdict = result.second; memory = m2.new; answers = a2.new; buffers = b2.new }) c2 p }

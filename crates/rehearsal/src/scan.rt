@@ -1,7 +1,6 @@
 // A scan on a lent crate, and where it has been.
-ghost use Rattle.std.specs.Prelude.{◌≡◌};
+ghost use Rattle.std.specs.Prelude.{◌≡◌, Ok};
 ghost use Rattle.step.specs.declared.Step.{Step};
-ghost use Rattle.step.specs.declared.Reading.{Reading};
 ghost use Rattle.controller.specs.Answers.{answer_words};
 ghost use Rattle.controller.specs.Steps.{order, performed, step_of, gives};
 ghost use Rattle.controller.specs.Finished.{ScanTold};
@@ -22,9 +21,9 @@ pub fn run_scan(
     limit: u32,
     buffer: &mut [u32],
 ) -> Answer
-    ensures step { step_of memory.old (order (Reading.Good (Step.Scan n a f to limit)) buffer.old)
+    ensures step { step_of memory.old (order (Ok (Step.Scan n a f to limit)) buffer.old)
         ≡ performed memory.new result buffer.new }
-    ensures words { answer_words result ≡ answer_of (gives memory.old (order (Reading.Good (Step.Scan n a f to limit)) buffer.old)) }
+    ensures words { answer_words result ≡ answer_of (gives memory.old (order (Ok (Step.Scan n a f to limit)) buffer.old)) }
     ensures been { ScanTold memory.old n a f to limit buffer.old result memory.new buffer.new }
 {
     run_step(memory, Step::Scan { n, a, f, to, limit }, buffer)

@@ -9,7 +9,7 @@ fn main(rt: HostRuntime) {
     let mut out = [0u8; 65536];
     let mut crate_path = [0u8; 4096];
     let mut run_path = [0u8; 4096];
-    let files = shell::files_named(
+    let Some(files) = shell::files_named(
         &rt,
         &err,
         b"crate.txt",
@@ -17,17 +17,14 @@ fn main(rt: HostRuntime) {
         b"usage: rehearse              reads crate.txt and run.txt in the current folder\n       rehearse CRATE RUN    reads the two files named; a file -x is named ./-x\n",
         &mut crate_path,
         &mut run_path,
-    );
-    if !files.ok {
+    ) else {
         return;
-    }
-    let m = files.first;
-    let n = files.second;
-    shell::rehearse(
+    };
+    let _ = shell::rehearse(
         &rt,
         &err,
-        &crate_path[..m],
-        &run_path[..n],
+        &crate_path[..files.first],
+        &run_path[..files.second],
         &mut text,
         &mut line,
         &mut memory,

@@ -12,20 +12,20 @@ use Rattle.sheet.proofs.Room.{put-nothing, put-end, of-text}
 use Rattle.report.specs.Report.{PartsAs, EachParts, alike, run, runs, run_text, runs_text}
 use Rattle.report.specs.Lines.{NoneParts, Taken, PutRuns}
 use Rattle.report.specs.declared.Parting.{Parting}
-use Rattle.report.specs.declared.Parting.TheVariants.{Nowhere}
+use Rattle.std.specs.Prelude.{Option, None}
 use Rattle.report.specs.declared.LastRun.{LastRun}
 use Rattle.report.proofs.RunLaws.{alike-equal, apart_none, apart_other, row-text, text-end}
 use Rattle.report.proofs.LineLaws.{run_short, each-nowhere, each_more}
 
-abbrev last_run : ℕ → Parting → ℕ → LastRun
+abbrev last_run : ℕ → Option Parting → ℕ → LastRun
 last_run a x at = record { low = a; parting = x; at = at }
 
 -- ---- one station: the answer of the test says which case holds
-pub taken-same : (o : List ℕ) (k : ℕ) (x : Parting) (last : LastRun) {b : Bool} → b ≡ alike last.parting x → b ≡ true
+pub taken-same : (o : List ℕ) (k : ℕ) (x : Option Parting) (last : LastRun) {b : Bool} → b ≡ alike last.parting x → b ≡ true
     → Taken (alike last.parting x) last o k x o last
 taken-same o k x last e h = subst (λ (b : Bool). Taken b last o k x o last) (sym h ∙ e) (refl, refl)
 
-pub taken-other : {o p : List ℕ} {next : ℕ} (k : ℕ) (x : Parting) (last : LastRun) {b : Bool} → b ≡ alike last.parting x → b ≡ false
+pub taken-other : {o p : List ℕ} {next : ℕ} (k : ℕ) (x : Option Parting) (last : LastRun) {b : Bool} → b ≡ alike last.parting x → b ≡ false
     → Put o last.at (run_text (run last.low (k - 1) last.parting)) p next
     → Taken (alike last.parting x) last o k x p (last_run k x next)
 taken-other {o} {p} {next} k x last e h f =
@@ -34,27 +34,27 @@ taken-other {o} {p} {next} k x last e h f =
 -- ---- the stations before k were taken: those before the last run (`done`) are in the lines that were put (`text`), and the others, `many`, all part as the last run
 -- does; whatever follows (`zs`), its lines stand behind the text (`cut`)
 pub record Heard (us ws before : List ℕ) (k : ℕ) (after : List ℕ) (last : LastRun) : Type 0 where
-  pub done : List Parting
+  pub done : List (Option Parting)
   pub many : ℕ
   pub text : List ℕ
   pub starts : 1 + length done ≡ last.low
   pub ends : last.low + many ≡ k
-  pub some : many ≡ 0 → last.parting ≡ Nowhere
+  pub some : many ≡ 0 → last.parting ≡ None
   pub each : EachParts us ws 1 (done ++ replicate many last.parting)
-  pub cut : (zs : List Parting) → runs_text (runs 1 (done ++ (replicate many last.parting ++ zs)))
+  pub cut : (zs : List (Option Parting)) → runs_text (runs 1 (done ++ (replicate many last.parting ++ zs)))
       ≡ text ++ runs_text (runs last.low (replicate many last.parting ++ zs))
   pub put : Put before 0 text after last.at
   pub short : last.at ≤ 80 * (k - 1)
 
 -- before the first that may part
 pub heard-start : {us ws : List ℕ} (o : List ℕ) {from : ℕ} {last : LastRun} → 1 ≤ from → NoneParts us ws 1 from
-    → last ≡ last_run 1 Nowhere 0 → Heard us ws o from o last
+    → last ≡ last_run 1 None 0 → Heard us ws o from o last
 heard-start {us} {ws} o {from} {last} h b e = subst (Heard us ws o from o) (sym e) start
   where
     d : 1 + (from - 1) ≡ from
     d = omega arith
 
-    start : Heard us ws o from o (last_run 1 Nowhere 0)
+    start : Heard us ws o from o (last_run 1 None 0)
     start =
         record {
           done = [];
@@ -70,10 +70,10 @@ heard-start {us} {ws} o {from} {last} h b e = subst (Heard us ws o from o) (sym 
         }
 
 -- one more in the row
-row_more : (m : ℕ) (x : Parting) (zs : List Parting) → replicate (m + 1) x ++ zs ≡ replicate m x ++ (x ∷ zs)
-row_more m x zs = ap (λ (l : List Parting). l ++ zs) (sym (replicate-append-replicate m 1 x)) ∙ append_assoc (replicate m x) (replicate 1 x) zs
+row_more : (m : ℕ) (x : Option Parting) (zs : List (Option Parting)) → replicate (m + 1) x ++ zs ≡ replicate m x ++ (x ∷ zs)
+row_more m x zs = ap (λ (l : List (Option Parting)). l ++ zs) (sym (replicate-append-replicate m 1 x)) ∙ append_assoc (replicate m x) (replicate 1 x) zs
 
-module _ {us ws o p : List ℕ} {k : ℕ} {last : LastRun} {x : Parting} (f : Heard us ws o k p last) (g : PartsAs us ws k x) where
+module _ {us ws o p : List ℕ} {k : ℕ} {last : LastRun} {x : Option Parting} (f : Heard us ws o k p last) (g : PartsAs us ws k x) where
   heard-long : 1 + length (f.done ++ replicate f.many last.parting) ≡ k
   heard-long = simp (length-append, length-replicate) (omega (arith, f.starts, f.ends))
 
@@ -86,7 +86,7 @@ module _ {us ws o p : List ℕ} {k : ℕ} {last : LastRun} {x : Parting} (f : He
       let y = last.parting in
       let c : (f.done ++ replicate f.many y) ++ (y ∷ []) ≡ f.done ++ replicate (f.many + 1) y =
       append_assoc f.done (replicate f.many y) (y ∷ [])
-      ∙ ap (λ (l : List Parting). f.done ++ l) (sym (row_more f.many y []) ∙ append-nil (replicate (f.many + 1) y)) in
+      ∙ ap (λ (l : List (Option Parting)). f.done ++ l) (sym (row_more f.many y []) ∙ append-nil (replicate (f.many + 1) y)) in
       record {
         done = f.done;
         many = f.many + 1;
@@ -94,7 +94,7 @@ module _ {us ws o p : List ℕ} {k : ℕ} {last : LastRun} {x : Parting} (f : He
         starts = f.starts;
         ends = omega (arith, f.ends);
         some = λ n. absurd (omega (arith, n));
-        each = subst (EachParts us ws 1) c (subst (λ (z : Parting). EachParts us ws 1 ((f.done ++ replicate f.many y) ++ (z ∷ []))) (sym e) heard-each);
+        each = subst (EachParts us ws 1) c (subst (λ (z : Option Parting). EachParts us ws 1 ((f.done ++ replicate f.many y) ++ (z ∷ []))) (sym e) heard-each);
         cut = λ zs. rw (row_more f.many y zs) (f.cut (y ∷ zs));
         put = f.put;
         short = omega (arith, f.short);
@@ -114,7 +114,7 @@ module _ {us ws o p : List ℕ} {k : ℕ} {last : LastRun} {x : Parting} (f : He
         ends = refl;
         some = λ n. absurd (omega (arith, n));
         each = heard-each;
-        cut = λ zs. ap (λ (l : List Parting). runs_text (runs 1 l)) (append_assoc f.done (replicate f.many y) (x ∷ zs))
+        cut = λ zs. ap (λ (l : List (Option Parting)). runs_text (runs 1 l)) (append_assoc f.done (replicate f.many y) (x ∷ zs))
             ∙ f.cut (x ∷ zs)
             ∙ ap (λ (l : List ℕ). f.text ++ l) (row-text f.many last.low k y (x ∷ zs) (omega (arith, f.starts, f.ends)) f.ends f.some
             (apart_other (k - 1) y x zs h))
@@ -122,10 +122,10 @@ module _ {us ws o p : List ℕ} {k : ℕ} {last : LastRun} {x : Parting} (f : He
         put = put_then f.put t.0 (omega arith);
         short = omega (arith, f.short, put-end 80 t.0 (run_short last.low (k - 1) y), f.starts, f.ends);
       } in
-      let e : last_run k x r.at ≡ r = ap (λ (n : ℕ). last_run n x r.at) (sym t.1) ∙ ap (λ (z : Parting). last_run r.low z r.at) (sym t.2) in
+      let e : last_run k x r.at ≡ r = ap (λ (n : ℕ). last_run n x r.at) (sym t.1) ∙ ap (λ (z : Option Parting). last_run r.low z r.at) (sym t.2) in
       subst (Heard us ws o (k + 1) q) e next
 
-pub heard-next : {us ws o p q : List ℕ} {k : ℕ} {last r : LastRun} {x : Parting} → Heard us ws o k p last → PartsAs us ws k x
+pub heard-next : {us ws o p q : List ℕ} {k : ℕ} {last r : LastRun} {x : Option Parting} → Heard us ws o k p last → PartsAs us ws k x
     → Taken (alike last.parting x) last p k x q r → Heard us ws o (k + 1) q r
 heard-next {us} {ws} {o} {p} {q} {k} {last} {r} {x} f g t = go (alike last.parting x) refl t
   where
@@ -142,7 +142,7 @@ heard_all {us} {ws} {o} {p} {q} {k} {next} {last} e f g =
     let line = run_text (run last.low 23 y) in
     let end : last.low + f.many ≡ 24 = omega (arith, e, f.ends) in
     let c : runs_text (runs 1 (f.done ++ row)) ≡ f.text ++ line =
-    ap (λ (l : List Parting). runs_text (runs 1 (f.done ++ l))) (sym (append-nil row))
+    ap (λ (l : List (Option Parting)). runs_text (runs 1 (f.done ++ l))) (sym (append-nil row))
     ∙ f.cut []
     ∙ ap (λ (l : List ℕ). f.text ++ l)
     (row-text f.many last.low 24 y [] (omega arith) end f.some (apart_none 23 y) ∙ text-end line) in

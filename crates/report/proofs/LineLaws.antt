@@ -1,48 +1,32 @@
 -- Where a watch parts, what the watches say in turn, and the text of a line and how long it is.
 -- Assumes nothing.
-use Prim.Native.Nat.{ℕ, zero, suc, ◌+◌, ◌≤◌, ◌<◌}
+use Prim.Native.Nat.{ℕ, zero, suc, ◌+◌, ◌≤◌}
 use mathlib.Core.Path.{◌≡◌, refl, sym, ap, subst}
 use mathlib.Core.Bool.{Bool, true, false, cond}
 use mathlib.Core.List.{List, [], ◌∷◌, ◌++◌, append-nil}
 use native.Mathlib.Nat.{add-zero}
 use native.Mathlib.Omega.{arith}
-use borrow.Author.Tests.{lt-ltb, le-ltb, eq-eqb, ne_eqb}
+use borrow.Author.Tests.{eq-eqb, ne_eqb}
 use lib.Dec.{eqb}
 use lib.ListN.{length, replicate, length-append}
 use Rattle.text.specs.Text.{field}
 use Rattle.text.specs.Paste.{Put}
 use Rattle.text.proofs.Decimal.{length-ten}
 use Rattle.sheet.proofs.Room.{of-text}
-use Rattle.verdict.specs.Counted.{count}
-use Rattle.verdict.specs.Compared.{Watched, Stands}
-use Rattle.verdict.specs.declared.Comparison.{Comparison}
-use Rattle.verdict.specs.declared.Comparison.TheVariants.{Same, Parted}
-use Rattle.report.specs.Report.{line_of, PartingAt, PartsAs, EachParts, alike, run, names_text, numbers_text, line_text, run_text}
+use Rattle.report.specs.contracts.PartingPartialEq.TheImpl as pe
+use Rattle.std.specs.Option.{option_eq}
+use Rattle.report.specs.Report.{PartsAs, EachParts, alike, run, names_text, numbers_text, line_text, run_text}
 use Rattle.report.specs.Lines.{NoneParts}
 use Rattle.report.specs.declared.Parting.{Parting}
-use Rattle.report.specs.declared.Parting.TheVariants.{Nowhere, At}
+use Rattle.std.specs.Prelude.{Option, None, Some}
 
--- ---- lines of the files
-pub line-in : (place many : ℕ) → place < many → place + 1 ≡ line_of place many
-line-in place many h = rw (lt-ltb place many h)
-
-pub line-past : (place many : ℕ) → many ≤ place → 0 ≡ line_of place many
-line-past place many h = rw (le-ltb place many h)
-
--- ---- where a watch parts
-pub parting-lines : {us ws : List ℕ} {i j s due there instead : ℕ} → Stands us i ws j s → due ≡ line_of i (count us) → there ≡ line_of j (count ws)
-    → instead ≡ line_of s (count ws) → PartingAt us ws i j (At due there instead)
-parting-lines {s = s} h e f g = (s, h, rw (e, f, g))
-
-pub parts-nowhere : {us ws : List ℕ} {k : ℕ} {v : Comparison} → v ≡ Same → Watched us ws k v → PartsAs us ws k Nowhere
-parts-nowhere {us} {ws} {k} e h = (Same, subst (Watched us ws k) e h, refl)
-
-pub parts_at : {us ws : List ℕ} {k n i j : ℕ} {x : Parting} {v : Comparison} → v ≡ Parted n i j → Watched us ws k v → PartingAt us ws i j x → PartsAs us ws k x
-parts_at {us} {ws} {k} {n} {i} {j} e h p = (Parted n i j, subst (Watched us ws k) e h, p)
-
--- ---- partings that are told by tests
-pub alike_as : {x y x' y' : Parting} {b : Bool} → x ≡ x' → y ≡ y' → b ≡ alike x' y' → b ≡ alike x y
-alike_as e f h = rw (e, f) h
+-- ---- `==` tells what is alike
+pub eq_alike : (x y : Option Parting) → option_eq (pe.ghosts).eq x y ≡ alike x y
+unfolding alike
+eq_alike None None = refl
+eq_alike None (Some q) = refl
+eq_alike (Some p) None = refl
+eq_alike (Some p) (Some q) = refl
 
 -- ---- the text of a line
 pub names-one : (a b : ℕ) → a ≡ b → field "n=" a ≡ names_text a b
@@ -53,7 +37,7 @@ pub names-two : (a b : ℕ) → (a ≡ b → ⊥) → field "n=" a ++ field " to
 unfolding names_text
 names-two a b h = rw (ne_eqb a b h)
 
-pub line_as : (names : List ℕ) {o p : List ℕ} {at next : ℕ} {x y : Parting} → x ≡ y → Put o at (line_text names y) p next → Put o at (line_text names x) p next
+pub line_as : (names : List ℕ) {o p : List ℕ} {at next : ℕ} {x y : Option Parting} → x ≡ y → Put o at (line_text names y) p next → Put o at (line_text names x) p next
 line_as names e f = of-text (ap (line_text names) (sym e)) f
 
 -- ---- how long the lines are
@@ -69,23 +53,23 @@ numbers-short : (f s t : ℕ) → length (numbers_text f s t) ≤ 54
 unfolding numbers_text
 numbers-short f s t = simp length-append (omega (arith, length-ten f, length-ten s, length-ten t))
 
-line-short : (names : List ℕ) (x : Parting) → length names ≤ 26 → length (line_text names x) ≤ 80
-line-short names Nowhere h = omega arith
-line-short names (At f s t) h = simp length-append (omega (arith, numbers-short f s t))
+line-short : (names : List ℕ) (x : Option Parting) → length names ≤ 26 → length (line_text names x) ≤ 80
+line-short names None h = omega arith
+line-short names (Some p) h = simp length-append (omega (arith, numbers-short p.first p.second p.stands))
 
-pub run_short : (a b : ℕ) (x : Parting) → length (run_text (run a b x)) ≤ 80
+pub run_short : (a b : ℕ) (x : Option Parting) → length (run_text (run a b x)) ≤ 80
 run_short a b x = line-short (names_text a b) x (names-short a b)
 
-pub refusal-short : (q : ℕ) (x : Parting) → length (line_text (field "refused=" q) x) ≤ 80
+pub refusal-short : (q : ℕ) (x : Option Parting) → length (line_text (field "refused=" q) x) ≤ 80
 refusal-short q x = line-short (field "refused=" q) x (simp length-append (omega (arith, length-ten q)))
 
 -- ---- watches in turn
-pub each-nowhere : {us ws : List ℕ} (k n : ℕ) → NoneParts us ws k (k + n) → EachParts us ws k (replicate n Nowhere)
+pub each-nowhere : {us ws : List ℕ} (k n : ℕ) → NoneParts us ws k (k + n) → EachParts us ws k (replicate n None)
 unfolding EachParts
 each-nowhere k zero b = tt
 each-nowhere k (suc n) b = (b k (omega arith) (omega arith), each-nowhere (suc k) n (λ i p q. b i (omega (arith, p)) (omega (arith, q))))
 
-pub each_more : {us ws : List ℕ} (k : ℕ) (xs : List Parting) {x : Parting} → EachParts us ws k xs → PartsAs us ws (k + length xs) x
+pub each_more : {us ws : List ℕ} (k : ℕ) (xs : List (Option Parting)) {x : Option Parting} → EachParts us ws k xs → PartsAs us ws (k + length xs) x
     → EachParts us ws k (xs ++ (x ∷ []))
 unfolding EachParts
 each_more {us} {ws} k [] {x} f g = (subst (λ (n : ℕ). PartsAs us ws n x) (add-zero k) g, tt)

@@ -11,19 +11,18 @@ use Rattle.text.specs.Paste.{Put}
 use Rattle.text.proofs.Paste.{put_then}
 use Rattle.sheet.proofs.Room.{put-nothing, put-end, of-text}
 use Rattle.step.specs.Refusals.{refusals}
-use Rattle.verdict.specs.Watches.{last_watch, Watch}
+use Rattle.verdict.specs.Watches.{last_watch}
 use Rattle.verdict.specs.Compared.{Compared}
-use Rattle.verdict.specs.declared.Comparison.{Comparison}
-use Rattle.verdict.specs.declared.Comparison.TheVariants.{Same, Parted}
+use Rattle.verdict.specs.declared.Parted.{Parted}
 use Rattle.report.specs.Report.{PartsAs, runs, line_text, runs_text, refusals_text, PutReport}
 use Rattle.report.specs.Lines.{NoneParts, PutRuns, PutRefusals, PutLines}
 use Rattle.report.specs.declared.Parting.{Parting}
-use Rattle.report.specs.declared.Parting.TheVariants.{Nowhere}
+use Rattle.std.specs.Prelude.{Option, None, Some}
 use Rattle.report.proofs.RunLaws.{apart_none, row-text, text-end}
 use Rattle.report.proofs.LineLaws.{refusal-short, each-nowhere, each_more}
 
 -- ---- the refusal numbers
-refusals-nowhere : (q n : ℕ) → refusals_text q (replicate n Nowhere) ≡ []
+refusals-nowhere : (q n : ℕ) → refusals_text q (replicate n None) ≡ []
 unfolding refusals_text
 refusals-nowhere q zero = refl
 refusals-nowhere q (suc n) = refusals-nowhere (suc q) n
@@ -32,13 +31,13 @@ pub refusals-start : {us ws : List ℕ} (o : List ℕ) (at from : ℕ) → 24 �
 refusals-start {us} {ws} o at from h b =
     let d : 24 + (from - 24) ≡ from = omega arith in
     record {
-      refused = replicate (from - 24) Nowhere;
-      all = (rw (length-replicate (from - 24) Nowhere) d, each-nowhere 24 (from - 24) (subst (NoneParts us ws 24) (sym d) b));
+      refused = replicate (from - 24) None;
+      all = (rw (length-replicate {A = Option Parting} (from - 24) None) d, each-nowhere 24 (from - 24) (subst (NoneParts us ws 24) (sym d) b));
       put = of-text (sym (refusals-nowhere 1 (from - 24))) (put-nothing o at);
       short = omega arith;
     }
 
-refusals-more : (q : ℕ) (xs : List Parting) (x : Parting)
+refusals-more : (q : ℕ) (xs : List (Option Parting)) (x : Option Parting)
     → refusals_text q (xs ++ (x ∷ [])) ≡ refusals_text q xs ++ line_text (field "refused=" (q + length xs)) x
 unfolding refusals_text
 refusals-more q [] x = rw (add-zero q) (append-nil (line_text (field "refused=" q) x))
@@ -47,7 +46,7 @@ refusals-more q (y ∷ ys) x =
     ap (λ (l : List ℕ). line_text (field "refused=" q) y ++ l) (refusals-more (suc q) ys x ∙ rw e)
     ∙ sym (append_assoc (line_text (field "refused=" q) y) (refusals_text (suc q) ys) (line_text (field "refused=" (q + suc (length ys))) x))
 
-pub refusals-next : {us ws o p q : List ℕ} {k at next end : ℕ} {x : Parting} → PutRefusals us ws k o at p next → PartsAs us ws k x → at ≤ length o
+pub refusals-next : {us ws o p q : List ℕ} {k at next end : ℕ} {x : Option Parting} → PutRefusals us ws k o at p next → PartsAs us ws k x → at ≤ length o
     → Put p next (line_text (field "refused=" (k - 23)) x) q end → PutRefusals us ws (k + 1) o at q end
 refusals-next {us} {ws} {k = k} {x = x} f g h t =
     let e : 1 + length f.refused ≡ k - 23 = omega (arith, f.all.0) in
@@ -62,14 +61,14 @@ refusals-next {us} {ws} {k = k} {x = x} f g h t =
 
 -- ---- all lines
 -- where no station parts
-nowhere-text : runs_text (runs 1 (replicate 23 Nowhere)) ≡ []
-nowhere-text = row-text 23 1 24 Nowhere [] (omega arith) refl (λ e. refl) (apart_none 23 Nowhere) ∙ text-end []
+nowhere-text : runs_text (runs 1 (replicate 23 None)) ≡ []
+nowhere-text = row-text 23 1 24 None [] (omega arith) refl (λ e. refl) (apart_none 23 None) ∙ text-end []
 
 pub lines-refusals : {us ws o p : List ℕ} {from next : ℕ} → 24 ≤ from → NoneParts us ws 1 from → PutRefusals us ws (last_watch + 1) o 0 p next
     → PutLines us ws o p next
 lines-refusals h b f =
     record {
-      stations = replicate 23 Nowhere;
+      stations = replicate 23 None;
       refused = f.refused;
       all-stations = (refl, each-nowhere 1 23 (λ n p q. b n p (omega (arith, q))));
       all-refused = (omega (arith, f.all.0), f.all.1);
@@ -88,23 +87,18 @@ lines-both f g =
       short = omega (arith, f.short, g.short);
     }
 
--- before the first watch that parts the lists are alike
-pub none_before : {us ws : List ℕ} {k i j : ℕ} {v : Comparison} → v ≡ Parted k i j → Compared us ws v → Watch k × NoneParts us ws 1 k
-none_before {us} {ws} {k} {i} {j} e c =
-    let h : Compared us ws (Parted k i j) = subst (Compared us ws) e c in (h.0, λ n a b. (Same, (λ w. h.1 n a b), refl))
-
 -- ---- the report
-pub report-same : {us ws o p : List ℕ} {next : ℕ} {v : Comparison} → v ≡ Same → Compared us ws v → Put o 0 (bytes "regrouped=1\n") p next
+pub report-same : {us ws o p : List ℕ} {next : ℕ} {v : Option Parted} → v ≡ None → Compared us ws v → Put o 0 (bytes "regrouped=1\n") p next
     → PutReport us ws o p next
 report-same {us} {ws} e c f =
-    let h : Compared us ws Same = subst (Compared us ws) e c in
-    let b : (a c : ℕ) → NoneParts us ws a c = λ a c n p q. (Same, h.0 n, refl) in
+    let h : Compared us ws None = subst (Compared us ws) e c in
+    let b : (a c : ℕ) → NoneParts us ws a c = λ a c n p q. (None, h.0 n, refl) in
     record {
       text = bytes "regrouped=1\n";
       report = record {
-        stations = replicate 23 Nowhere;
-        refused = replicate refusals Nowhere;
-        verdict = Same;
+        stations = replicate 23 None;
+        refused = replicate refusals None;
+        verdict = None;
         all-stations = (refl, each-nowhere 1 23 (b 1 24));
         all-refused = (refl, each-nowhere 24 refusals (b 24 (last_watch + 1)));
         compared = h;
@@ -113,15 +107,15 @@ report-same {us} {ws} e c f =
       put = f;
     }
 
-pub report-parted : {us ws o p q : List ℕ} {k i j at next : ℕ} {v : Comparison} → v ≡ Parted k i j → Compared us ws v → PutLines us ws o p at
+pub report-parted : {us ws o p q : List ℕ} {at next : ℕ} {v : Option Parted} (d : Parted) → v ≡ Some d → Compared us ws v → PutLines us ws o p at
     → Put p at (bytes "regrouped=0\n") q next → PutReport us ws o q next
-report-parted {us} {ws} {k = k} {i} {j} e c f g =
+report-parted {us} {ws} d e c f g =
     record {
       text = runs_text (runs 1 f.stations) ++ refusals_text 1 f.refused ++ bytes "regrouped=0\n";
       report = record {
         stations = f.stations;
         refused = f.refused;
-        verdict = Parted k i j;
+        verdict = Some d;
         all-stations = f.all-stations;
         all-refused = f.all-refused;
         compared = subst (Compared us ws) e c;

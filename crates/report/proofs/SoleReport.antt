@@ -7,25 +7,24 @@ use native.Mathlib.Omega.{arith}
 use lib.ListN.{length}
 use Rattle.verdict.proofs.Sole.{sole, sole-watched, sole-stands}
 use Rattle.verdict.specs.Counted.{count}
-use Rattle.verdict.specs.declared.Comparison.{Comparison}
-use Rattle.verdict.specs.declared.Comparison.TheVariants.{Same, Parted}
-use Rattle.report.specs.Report.{line_of, PartingOf, PartsAs, EachParts, Report}
+use Rattle.verdict.specs.declared.Parted.{Parted}
+use Rattle.report.specs.Report.{at_lines, line_of, PartingOf, PartsAs, EachParts, Report}
 use Rattle.report.specs.declared.Parting.{Parting}
-use Rattle.report.specs.declared.Parting.TheVariants.{At}
+use Rattle.std.specs.Prelude.{Option, None, Some}
 
 module _ (us ws : List ℕ) where
-  sole-parting : (v : Comparison) (x y : Parting) → PartingOf us ws v x → PartingOf us ws v y → x ≡ y
-  sole-parting Same x y p q = p ∙ sym q
-  sole-parting (Parted k i j) x y p q =
-      let e = sole-stands us i ws j p.0 q.0 p.1 q.1 in
-      p.2 ∙ ap (λ (s : ℕ). At (line_of i (count us)) (line_of j (count ws)) (line_of s (count ws))) e ∙ sym q.2
+  sole-parting : (v : Option Parted) (x y : Option Parting) → PartingOf us ws v x → PartingOf us ws v y → x ≡ y
+  sole-parting None x y p q = p ∙ sym q
+  sole-parting (Some d) x y p q =
+      let e = sole-stands us d.first ws d.second p.0 q.0 p.1 q.1 in
+      p.2 ∙ ap (λ (s : ℕ). at_lines (line_of d.first (count us)) (line_of d.second (count ws)) (line_of s (count ws))) e ∙ sym q.2
 
-  pub sole-parts : (k : ℕ) (x y : Parting) → PartsAs us ws k x → PartsAs us ws k y → x ≡ y
+  pub sole-parts : (k : ℕ) (x y : Option Parting) → PartsAs us ws k x → PartsAs us ws k y → x ≡ y
   sole-parts k x y p q =
       let e = sole-watched us ws k p.0 q.0 p.1 q.1 in
-      sole-parting q.0 x y (subst (λ (v : Comparison). PartingOf us ws v x) e p.2) q.2
+      sole-parting q.0 x y (subst (λ (v : Option Parted). PartingOf us ws v x) e p.2) q.2
 
-  sole-each : (k : ℕ) (xs ys : List Parting) → length xs ≡ length ys → EachParts us ws k xs → EachParts us ws k ys → xs ≡ ys
+  sole-each : (k : ℕ) (xs ys : List (Option Parting)) → length xs ≡ length ys → EachParts us ws k xs → EachParts us ws k ys → xs ≡ ys
   unfolding EachParts
   sole-each k [] [] e p q = refl
   sole-each k [] (y ∷ ys) e p q = absurd (omega (arith, e))

@@ -2,7 +2,7 @@
 // last the verdict, put into a lent buffer.
 #![tactic(auto)]
 
-ghost use Rattle.std.specs.Prelude.{◌≡◌, ◌+◌, ◌*◌, ◌≤◌, length};
+ghost use Rattle.std.specs.Prelude.{◌≡◌, ◌+◌, ◌*◌, ◌≤◌, length, Some};
 ghost use Rattle.text.specs.Text.{field};
 ghost use Rattle.text.specs.Paste.{Put};
 ghost use Rattle.verdict.specs.Counted.{count};
@@ -11,27 +11,23 @@ ghost use Rattle.report.specs.Report.{line_of, PartingAt, PartsAs, alike, run, n
 ghost use Rattle.report.specs.Lines.{NoneParts, Taken, PutRuns, PutRefusals, PutLines};
 
 use lists::STEP_WORDS;
+use step::fields::LAST_STATION;
 use text::{put_bytes, put_field};
-use verdict::{Comparison, LAST_WATCH};
+use verdict::LAST_WATCH;
 
-const LAST_STATION: u32 = 23;
-
-// Where a watch parts: nowhere, or at the line of the first list that was due, the line of the second that stands there, and the line where the due one stands instead.
-#[derive(Clone, Copy)]
-pub enum Parting {
-    Nowhere,
-    At {
-        first: u32,
-        second: u32,
-        stands: u32,
-    },
+// Where a watch parts: the line of the first list that was due, the line of the second that stands there, and the line where the due one stands instead.
+#[derive(Clone, Copy, PartialEq, Eq)]
+pub struct Parting {
+    pub first: u32,
+    pub second: u32,
+    pub stands: u32,
 }
 
-// The last run so far, which may go on: its first station, how its stations part, and the place in the buffer for its line.
+// The last run so far, which may go on: its first station, where its stations part, if they do, and the place in the buffer for its line.
 #[derive(Clone, Copy)]
 pub struct LastRun {
     pub low: u32,
-    pub parting: Parting,
+    pub parting: Option<Parting>,
     pub at: usize,
 }
 
@@ -40,80 +36,31 @@ fn line_number(place: usize, many: usize) -> u32
     requires { many ≤ 99999 }
     ensures { result ≡ line_of place many }
 {
-    if place < many {
-        return place as u32 + 1;
-    }
-    0
+    if place < many { place as u32 + 1 } else { 0 }
 }
 
 // The parting at place i of the first list and place j of the second.
 fn parting_at(first: &[u32], second: &[u32], i: usize, j: usize) -> Parting
     requires { (count first.now ≤ 99999) × (count second.now ≤ 99999) }
-    ensures { PartingAt first.now second.now i j result }
+    ensures { PartingAt first.now second.now i j (Some result) }
 {
     let m = first.len() / STEP_WORDS;
     let n = second.len() / STEP_WORDS;
     let s = verdict::find(first, i, second, j);
-    let due = line_number(i, m);
-    let there = line_number(j, n);
-    let instead = line_number(s, n);
-    Parting::At {
-        first: due,
-        second: there,
-        stands: instead,
+    Parting {
+        first: line_number(i, m),
+        second: line_number(j, n),
+        stands: line_number(s, n),
     }
 }
 
 // Where watch k parts.
-fn parting_of(first: &[u32], second: &[u32], k: u32) -> Parting
+fn parting_of(first: &[u32], second: &[u32], k: u32) -> Option<Parting>
     requires { (count first.now ≤ 99999) × (count second.now ≤ 99999) }
     ensures { PartsAs first.now second.now k result }
 {
-    let v = verdict::watch(first, second, k);
-    match v {
-        Comparison::Same => Parting::Nowhere,
-        Comparison::Parted {
-            watch: _,
-            first: i,
-            second: j,
-        } => parting_at(first, second, i, j),
-    }
-}
-
-// Two stations part alike.
-fn part_alike(x: Parting, y: Parting) -> bool
-    ensures { result ≡ alike x y }
-{
-    match x {
-        Parting::Nowhere => match y {
-            Parting::Nowhere => true,
-            Parting::At {
-                first: _,
-                second: _,
-                stands: _,
-            } => false,
-        },
-        Parting::At {
-            first: a,
-            second: b,
-            stands: c,
-        } => match y {
-            Parting::Nowhere => false,
-            Parting::At {
-                first: d,
-                second: e,
-                stands: f,
-            } => {
-                if a != d {
-                    return false;
-                }
-                if b != e {
-                    return false;
-                }
-                c == f
-            }
-        },
-    }
+    let parted = verdict::watch(first, second, k)?;
+    Some(parting_at(first, second, parted.first, parted.second))
 }
 
 // Puts the names of the stations from low to high.
@@ -129,110 +76,93 @@ fn put_names(out: &mut [u8], at: usize, low: u32, high: u32) -> usize
 }
 
 // Puts the three lines of a parting.
-fn put_numbers(out: &mut [u8], at: usize, first: u32, second: u32, stands: u32) -> usize
+fn put_numbers(out: &mut [u8], at: usize, parting: Parting) -> usize
     requires { at + 54 ≤ length out.old }
-    ensures { Put out.old at (numbers_text first second stands) out.new result }
+    ensures { Put out.old at (numbers_text parting.first parting.second parting.stands) out.new result }
 {
-    let there = put_field(out, at, b" first=", first);
-    let instead = put_field(out, there, b" second=", second);
-    let end = put_field(out, instead, b" stands=", stands);
+    let there = put_field(out, at, b" first=", parting.first);
+    let instead = put_field(out, there, b" second=", parting.second);
+    let end = put_field(out, instead, b" stands=", parting.stands);
     put_bytes(out, end, b"\n")
 }
 
 // Puts the line of the stations from low to high, which part as x.
-fn put_run(out: &mut [u8], at: usize, low: u32, high: u32, x: Parting) -> usize
+fn put_run(out: &mut [u8], at: usize, low: u32, high: u32, x: Option<Parting>) -> usize
     requires { at + 80 ≤ length out.old }
     ensures { Put out.old at (run_text (run low high x)) out.new result }
 {
     match x {
-        Parting::Nowhere => at,
-        Parting::At {
-            first: f,
-            second: s,
-            stands: t,
-        } => {
+        None => at,
+        Some(parting) => {
             let next = put_names(out, at, low, high);
-            put_numbers(out, next, f, s, t)
+            put_numbers(out, next, parting)
         }
     }
 }
 
 // Puts the line of refusal number q, which parts as x.
-fn put_refusal(out: &mut [u8], at: usize, q: u32, x: Parting) -> usize
+fn put_refusal(out: &mut [u8], at: usize, q: u32, x: Option<Parting>) -> usize
     requires { at + 80 ≤ length out.old }
     ensures { Put out.old at (line_text (field "refused=" q) x) out.new result }
 {
     match x {
-        Parting::Nowhere => at,
-        Parting::At {
-            first: f,
-            second: s,
-            stands: t,
-        } => {
+        None => at,
+        Some(parting) => {
             let next = put_field(out, at, b"refused=", q);
-            put_numbers(out, next, f, s, t)
+            put_numbers(out, next, parting)
         }
     }
 }
 
 // Station k, which parts as x, goes into the last run; or that run's line is put, and the station begins the next.
-fn take_station(out: &mut [u8], last: LastRun, k: u32, x: Parting) -> LastRun
+fn take_station(out: &mut [u8], last: LastRun, k: u32, x: Option<Parting>) -> LastRun
     requires { (last.at + 80 ≤ length out.old) × (1 ≤ k) }
     ensures { Taken (alike last.parting x) last out.old k x out.new result }
 {
-    let parting = last.parting;
-    let same = part_alike(parting, x);
-    if same {
+    if last.parting == x {
         return last;
     }
-    let at = put_run(out, last.at, last.low, k - 1, parting);
+    let at = put_run(out, last.at, last.low, k - 1, last.parting);
     LastRun {
         low: k,
         parting: x,
-        at: at,
+        at,
     }
 }
 
 // Puts the lines of the stations; those before station `from` part nowhere.
 fn put_runs(first: &[u32], second: &[u32], from: u32, out: &mut [u8]) -> usize
-    requires first_bound { (count first.now ≤ 99999) × (count second.now ≤ 99999) × (4096 ≤ length out.old) }
-    requires le_from { (1 ≤ from) × (from ≤ 23) × NoneParts first.now second.now 1 from }
+    requires fit_lists { (count first.now ≤ 99999) × (count second.now ≤ 99999) × (4096 ≤ length out.old) }
+    requires none_before { (1 ≤ from) × (from ≤ 23) × NoneParts first.now second.now 1 from }
     ensures { PutRuns first.now second.now out.old out.new result }
 {
     let mut last = LastRun {
         low: 1,
-        parting: Parting::Nowhere,
+        parting: None,
         at: 0,
     };
-    let mut k = from;
-    while k <= LAST_STATION {
-        let x = parting_of(first, second, k);
-        last = take_station(out, last, k, x);
-        k += 1;
+    for k in from..=LAST_STATION {
+        last = take_station(out, last, k, parting_of(first, second, k));
     }
-    let parting = last.parting;
-    put_run(out, last.at, last.low, LAST_STATION, parting)
+    put_run(out, last.at, last.low, LAST_STATION, last.parting)
 }
 
 // Puts the lines of the refusal numbers; those before watch `from` part nowhere.
 fn put_refusals(first: &[u32], second: &[u32], from: u32, out: &mut [u8], at: usize) -> usize
-    requires first_bound { (count first.now ≤ 99999) × (count second.now ≤ 99999) × (at ≤ 80 * 24) × (4096 ≤ length out.old) }
-    requires le_from { (24 ≤ from) × (from ≤ last_watch) × NoneParts first.now second.now 24 from }
+    requires fit_lists { (count first.now ≤ 99999) × (count second.now ≤ 99999) × (at ≤ 80 * 24) × (4096 ≤ length out.old) }
+    requires none_before { (24 ≤ from) × (from ≤ last_watch) × NoneParts first.now second.now 24 from }
     ensures { PutRefusals first.now second.now (last_watch + 1) out.old at out.new result }
 {
     let mut next = at;
-    let mut k = from;
-    while k <= LAST_WATCH {
-        let x = parting_of(first, second, k);
-        next = put_refusal(out, next, k - LAST_STATION, x);
-        k += 1;
+    for k in from..=LAST_WATCH {
+        next = put_refusal(out, next, k - LAST_STATION, parting_of(first, second, k));
     }
     next
 }
 
 // Puts the lines of all watches; those before watch `from` part nowhere.
 fn put_lines(first: &[u32], second: &[u32], from: u32, out: &mut [u8]) -> usize
-    requires first_bound { (count first.now ≤ 99999) × (count second.now ≤ 99999) × (4096 ≤ length out.old) }
+    requires fit_lists { (count first.now ≤ 99999) × (count second.now ≤ 99999) × (4096 ≤ length out.old) }
     requires watch { Watch from × NoneParts first.now second.now 1 from }
     ensures { PutLines first.now second.now out.old out.new result }
 {
@@ -248,15 +178,10 @@ pub fn put_report(first: &[u32], second: &[u32], out: &mut [u8]) -> usize
     requires { (count first.now ≤ 99999) × (count second.now ≤ 99999) × (4096 ≤ length out.old) }
     ensures { PutReport first.now second.now out.old out.new result }
 {
-    let v = verdict::compare(first, second);
-    match v {
-        Comparison::Same => put_bytes(out, 0, b"regrouped=1\n"),
-        Comparison::Parted {
-            watch: k,
-            first: _,
-            second: _,
-        } => {
-            let at = put_lines(first, second, k, out);
+    match verdict::compare(first, second) {
+        None => put_bytes(out, 0, b"regrouped=1\n"),
+        Some(parted) => {
+            let at = put_lines(first, second, parted.watch, out);
             put_bytes(out, at, b"regrouped=0\n")
         }
     }

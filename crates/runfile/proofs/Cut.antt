@@ -8,12 +8,11 @@ use borrow.Author.Tests.{leb-true, leb-false}
 use lib.Dec.{leb}
 use lib.ListN.{length, take}
 use lib.Seq.{take_all, length-take-le}
-use Rattle.step.specs.declared.ModuleLine.TheVariants.{Bad as Spoilt}
-use Rattle.step.specs.declared.Reading.TheVariants.{Bad}
 use Rattle.step.specs.declared.Refusal.TheVariants.{Garbled}
 use Rattle.runfile.specs.Read.{read_line, read_module}
 use Rattle.runfile.proofs.CrateLines.{long-module-is-garbled}
 use Rattle.runfile.proofs.RunLines.{long-is-garbled}
+use Rattle.std.specs.Prelude.{Err}
 
 cut : {A : Type 0} (read : List ℕ → A) (bad : A) → ((l : List ℕ) → 80 < length l → read l ≡ bad) → (l : List ℕ) → read (take 81 l) ≡ read l
 cut read bad long l = go (leb (length l) 81) refl
@@ -26,7 +25,7 @@ cut read bad long l = go (leb (length l) 81) refl
         long (take 81 l) (omega arith) ∙ sym (long l (omega arith))
 
 pub cut_line : (l : List ℕ) → read_line (take 81 l) ≡ read_line l
-cut_line = cut read_line (Bad Garbled) long-is-garbled
+cut_line = cut read_line (Err Garbled) long-is-garbled
 
 pub cut-module : (l : List ℕ) → read_module (take 81 l) ≡ read_module l
-cut-module = cut read_module (Spoilt Garbled) long-module-is-garbled
+cut-module = cut read_module (Err Garbled) long-module-is-garbled

@@ -1,36 +1,76 @@
--- What the answer of a scanner, or of a reading of one kind, says of the definition that its contract cites, by the case that the code
--- found.
-use Prim.Native.Nat.{ℕ}
-use mathlib.Core.Path.{◌≡◌, sym, ◌∙◌, ap, ap₂}
-use mathlib.Core.List.{List}
-use lib.ListN.{drop}
-use Rattle.step.specs.declared.Reading.{Reading}
-use Rattle.runfile.specs.Places.{as_taken, as_heads}
-use Rattle.runfile.specs.Read.{Taken, taken, absent, Heads, heads, headless, read_field, head_after, head_of, or_else}
-use Rattle.runfile.specs.declared.fields.Head.{Head}
-use Rattle.runfile.specs.declared.fields.Head.TheVariants.{Fields, NoHead}
-use Rattle.runfile.specs.declared.fields.Number.{Number}
-use Rattle.runfile.specs.declared.fields.Number.TheVariants.{Value, Missing}
+-- What the library's tests say of the definitions of `Read`.
+use Prim.Native.Nat.{ℕ, ◌<◌}
+use mathlib.Core.Path.{◌≡◌, refl}
+use mathlib.Core.Bool.{Bool, true, false, cond, ◌&&◌}
+use mathlib.Core.List.{List, [], ◌∷◌}
+use native.Mathlib.Omega.{arith}
+use borrow.Author.Tests.{ne_eqb}
+use lib.Dec.{eqb}
+use lib.ListN.{length, take, drop}
+use Rattle.std.specs.Prelude.{Option, Some, None}
+use Rattle.std.specs.Option.{option_or}
+use Rattle.std.specs.Bool.{then_some}
+use Rattle.std.specs.Cmp.Lexicographic.{pointwise}
+use Rattle.step.specs.declared.Step.{Step}
+use Rattle.step.specs.Results.{Reading}
+use Rattle.runfile.specs.Parts.{reading}
+use Rattle.runfile.specs.Read.{Taken, absent, number, read_field, equal, ended, exactly, or_else}
 
-pub was-taken : (line : List ℕ) (r : Number) {t : Taken} {v next : ℕ} → as_taken line r ≡ t → r ≡ Value v next → t ≡ taken v (drop next line)
-was-taken line r e q = sym e ∙ ap (as_taken line) q
+-- a number behind a key is a number behind as many bytes, if these are the key
+pub field-behind : (key l : List ℕ) → read_field key l ≡ cond (pointwise eqb (take (length key) l) key) (number (drop (length key) l)) absent
+field-behind [] l = refl
+field-behind (k ∷ key) [] = refl
+field-behind (k ∷ key) (b ∷ l) = go (eqb b k) _ (field-behind key l)
+  where
+    go : (t u : Bool)
+        → read_field key l ≡ cond u (number (drop (length key) l)) absent
+        → cond t (read_field key l) absent ≡ cond (t && u) (number (drop (length key) l)) absent
+    go true u e = e
+    go false u e = refl
 
-pub was-absent : (line : List ℕ) (r : Number) {t : Taken} → as_taken line r ≡ t → r ≡ Missing → t ≡ absent
-was-absent line r e q = sym e ∙ ap (as_taken line) q
+-- the same, with the bytes cut off
+pub field-cut : (key l : List ℕ) {front rest : List ℕ} {n : ℕ} {b : Bool} → length key ≡ n → front ≡ take n l → rest ≡ drop n l
+    → b ≡ pointwise eqb front key → read_field key l ≡ cond b (number rest) absent
+field-cut key l e f r b = rw (b, f, r, ← e) (field-behind key l)
 
-pub was-heads : (line : List ℕ) (r : Head) {t : Heads} {n a f next : ℕ} → as_heads line r ≡ t → r ≡ Fields n a f next
-    → t ≡ heads n a f (drop next line)
-was-heads line r e q = sym e ∙ ap (as_heads line) q
+-- a line that ends within the key
+pub field-short : (key l : List ℕ) {n : ℕ} → length l < n → length key ≡ n → read_field key l ≡ absent
+field-short key l h e = go key l (omega (arith, e))
+  where
+    either : (t : Bool) {u : Taken} → u ≡ absent → cond t u absent ≡ absent
+    either true e = e
+    either false e = refl
 
-pub was-headless : (line : List ℕ) (r : Head) {t : Heads} → as_heads line r ≡ t → r ≡ NoHead → t ≡ headless
-was-headless line r e q = sym e ∙ ap (as_heads line) q
+    go : (key l : List ℕ) → length l < length key → read_field key l ≡ absent
+    go [] l h = absurd (omega arith)
+    go (k ∷ key) [] h = refl
+    go (k ∷ key) (b ∷ l) h = either (eqb b k) (go key l (omega arith))
 
--- the head of a line whose first field was read with a key
-pub headed : (line : List ℕ) (first : Number) (r : Head) (key : List ℕ) → as_taken line first ≡ read_field key line
-    → as_heads line r ≡ head_after (as_taken line first) → as_heads line r ≡ head_of key line
-unfolding head_of
-headed line first r key e h = h ∙ ap head_after e
+-- the same bytes, as the library compares them
+pub equal-pointwise : (word l : List ℕ) → equal word l ≡ pointwise eqb l word
+equal-pointwise [] [] = refl
+equal-pointwise [] (b ∷ l) = refl
+equal-pointwise (k ∷ word) [] = refl
+equal-pointwise (k ∷ word) (b ∷ l) = go (eqb b k) _ (equal-pointwise word l)
+  where
+    go : (t u : Bool) → equal word l ≡ u → cond t (equal word l) false ≡ (t && u)
+    go true u e = e
+    go false u e = refl
 
--- the reading that `or_else` gives of two
-pub either : {a a' b b' r : Reading} → a ≡ a' → b ≡ b' → r ≡ or_else a b → r ≡ or_else a' b'
-either p q e = e ∙ ap₂ or_else p q
+-- the answer, if nothing is left of the line
+pub finished : {A : Type 0} (l : List ℕ) (x : A) {b : Bool} {r : Option A} → b ≡ eqb (length l) 0 → r ≡ then_some b x → reading r ≡ ended l x
+finished [] x e h = rw (h, e)
+finished (b ∷ l) x e h = rw (h, e, ne_eqb (length (b ∷ l)) 0 (λ z. omega (arith, z)))
+
+-- the step, if a test holds
+pub tested : (t : Bool) (s : Step) → reading (then_some t s) ≡ exactly t s
+tested true s = refl
+tested false s = refl
+
+-- the first step, or else the second
+pub either : (a b : Option Step) {r : Option Step} {p q : Reading} → reading a ≡ p → reading b ≡ q → r ≡ option_or a b → reading r ≡ or_else p q
+either a b e h o = rw (o, ← e, ← h) (go a)
+  where
+    go : (a : Option Step) → reading (option_or a b) ≡ or_else (reading a) (reading b)
+    go None = refl
+    go (Some x) = refl

@@ -9,14 +9,14 @@ use borrow.Author.Tests.{eqb-false, ne_eqb}
 use lib.Dec.{eqb}
 use lib.ListN.{length, get_or}
 use Rattle.text.specs.Text.{bytes}
-use Rattle.step.specs.declared.Reading.{Reading}
-use Rattle.step.specs.declared.Reading.TheVariants.{Good, Bad}
 use Rattle.step.specs.declared.Refusal.TheVariants.{Garbled}
 use Rattle.step.specs.declared.Step.{Step}
 use Rattle.step.specs.declared.Step.TheVariants.{Command, Front, Z, C, Inhibit, LookAtMe, Repeat, Put, Within}
 use Rattle.runfile.specs.Read.{absent, read_field, equal, or_else, exactly, head_of}
 use Rattle.runfile.specs.Read.{naf_line, front_line, bare_line, inhibit_line, scan_line, repeat_line, stop_line, put_line, within_line, read_line}
 use Rattle.runfile.proofs.RunLines.{OnlyGarbled, only-ended, only_then, only-head}
+use Rattle.std.specs.Prelude.{Ok, Err}
+use Rattle.step.specs.Results.{Reading}
 
 -- ---- a key or a word that differs from the line at place i
 other-field : (i : ℕ) (key l : List ℕ) → i < length key → (get_or l i 0 ≡ get_or key i 0 → ⊥) → read_field key l ≡ absent
@@ -50,7 +50,7 @@ sign w = get_or (bytes w) 0 0
 
 -- a reading, if the letter c is w; else garbled
 abbrev at : ℕ → String → Reading → Reading
-at c w r = cond (eqb c (sign w)) r (Bad Garbled)
+at c w r = cond (eqb c (sign w)) r (Err Garbled)
 
 -- `read_line` with each form tried at its letter only
 abbrev pub chosen : ℕ → List ℕ → Reading
@@ -68,10 +68,10 @@ chosen c l =
 
 module _ (l : List ℕ) where
   -- a form that reads a line with another letter as garbled may be tried at its letter only
-  at-letter : (w : String) (r : Reading) → ((letter l ≡ sign w → ⊥) → r ≡ Bad Garbled) → r ≡ at (letter l) w r
+  at-letter : (w : String) (r : Reading) → ((letter l ≡ sign w → ⊥) → r ≡ Err Garbled) → r ≡ at (letter l) w r
   at-letter w r other = go (eqb (letter l) (sign w)) refl
     where
-      go : (t : Bool) → eqb (letter l) (sign w) ≡ t → r ≡ cond t r (Bad Garbled)
+      go : (t : Bool) → eqb (letter l) (sign w) ≡ t → r ≡ cond t r (Err Garbled)
       go true e = refl
       go false e = other (eqb-false (letter l) (sign w) e)
 
@@ -129,9 +129,9 @@ module _ (l : List ℕ) where
 
 -- ---- what `read_line` answers at each letter
 -- garbled is the one refusal of a form, so a last try that is garbled changes nothing
-alone : (r : Reading) → OnlyGarbled r → r ≡ or_else r (Bad Garbled)
-alone (Good s) o = refl
-alone (Bad q) o = ap Bad o
+alone : (r : Reading) → OnlyGarbled r → r ≡ or_else r (Err Garbled)
+alone (Ok s) o = refl
+alone (Err q) o = ap Err o
 
 only-exactly : (t : Bool) (s : Step) → OnlyGarbled (exactly t s)
 only-exactly true s = tt
@@ -202,7 +202,7 @@ module _ (l : List ℕ) where
       only-ended r₄ (Within n to lo hi)) ∙ by-letter l 119 e
 
 -- a line that ends before its letter
-pub no-letter : (l : List ℕ) → length l < 4 → Bad Garbled ≡ read_line l
+pub no-letter : (l : List ℕ) → length l < 4 → Err Garbled ≡ read_line l
 no-letter l h = by-letter l 0 (none l 3 (omega arith))
   where
     none : (l : List ℕ) (i : ℕ) → length l ≤ i → get_or l i 0 ≡ 0
@@ -211,13 +211,11 @@ no-letter l h = by-letter l 0 (none l 3 (omega arith))
     none (b ∷ l) (suc i) h = none l i (omega arith)
 
 -- a letter of no form
-pub other-letter : (l : List ℕ)
-    → (letter l ≡ 110 → ⊥) → (letter l ≡ 102 → ⊥) → (letter l ≡ 122 → ⊥) → (letter l ≡ 99 → ⊥)
-    → (letter l ≡ 105 → ⊥) → (letter l ≡ 108 → ⊥) → (letter l ≡ 115 → ⊥) → (letter l ≡ 114 → ⊥) → (letter l ≡ 112 → ⊥)
-    → (letter l ≡ 119 → ⊥)
-    → Bad Garbled ≡ read_line l
-other-letter l n f z c i lam s r p w =
-    let x = letter l in
+pub other-letter : (l : List ℕ) (x : ℕ) → letter l ≡ x
+    → (x ≡ 110 → ⊥) → (x ≡ 102 → ⊥) → (x ≡ 122 → ⊥) → (x ≡ 99 → ⊥) → (x ≡ 105 → ⊥)
+    → (x ≡ 108 → ⊥) → (x ≡ 115 → ⊥) → (x ≡ 114 → ⊥) → (x ≡ 112 → ⊥) → (x ≡ 119 → ⊥)
+    → Err Garbled ≡ read_line l
+other-letter l x e n f z c i lam s r p w =
     rw (
       ne_eqb x 110 n,
       ne_eqb x 102 f,
@@ -230,4 +228,4 @@ other-letter l n f z c i lam s r p w =
       ne_eqb x 112 p,
       ne_eqb x 119 w,
     )
-    at (by-letter l x refl)
+    at (by-letter l x e)

@@ -5,4 +5,3 @@ pub mod Found
 pub mod Letters
 pub mod Numbers
 pub mod RunLines
-pub mod Turns

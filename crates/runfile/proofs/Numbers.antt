@@ -1,15 +1,25 @@
 -- Reading and writing of numbers undo each other: a number is read from its decimal text and from nothing else.
 use Prim.Native.Nat.{ℕ, zero, suc, ◌+◌, ◌-◌, ◌*◌, ◌/◌, ◌%◌, ◌≤◌, ◌<◌}
 use mathlib.Core.Path.{◌≡◌, refl, ◌∙◌}
-use mathlib.Core.Bool.{Bool, true, false, cond}
+use mathlib.Core.Bool.{Bool, true, false, cond, and-eq-true_iff}
 use mathlib.Core.List.{List, [], ◌∷◌, ◌++◌, append_assoc}
 use native.Mathlib.Omega.{arith}
-use borrow.Author.Tests.{ltb-true, ltb-false, lt-ltb, le-leb, eqb-true}
-use lib.Dec.{ltb, eqb}
+use borrow.Author.Tests.{leb-true, ltb-true, ltb-false, lt-ltb, le-leb, eqb-true}
+use lib.Dec.{leb, ltb, eqb}
 use Rattle.text.specs.Text.{decimal}
 use Rattle.text.proofs.Decimal.{bound, decimal-one, decimal-more}
 use Rattle.runfile.specs.Read.{digit, taken, absent, open-ended, digits_from, number, read_field}
-use Rattle.runfile.proofs.Turns.{digit-byte, open-bounds}
+
+-- what the tests say of a byte and of a number
+digit-byte : (b : ℕ) → digit b ≡ true → (48 ≤ b) × (b ≤ 57)
+digit-byte b e =
+    let p = (and-eq-true_iff (leb 48 b) (leb b 57)).0 e in
+    (leb-true 48 b p.0, leb-true b 57 p.1)
+
+open-bounds : (v : ℕ) → open-ended v ≡ true → (0 < v) × (v < 10000000)
+open-bounds v e =
+    let p = (and-eq-true_iff (ltb 0 v) (ltb v 10000000)).0 e in
+    (ltb-true 0 v p.0, ltb-true v 10000000 p.1)
 
 -- one digit more
 one_more : (v d : ℕ) → 0 < v → v < 10000000 → d < 10 → decimal (v * 10 + d) ≡ decimal v ++ ((48 + d) ∷ [])

@@ -10,8 +10,6 @@ use lib.Dec.{eqb}
 use lib.ListN.{length, length-append}
 use Rattle.text.specs.Text.{bytes, decimal, field_then}
 use Rattle.text.proofs.Decimal.{length-eight}
-use Rattle.step.specs.declared.Reading.{Reading}
-use Rattle.step.specs.declared.Reading.TheVariants.{Good, Bad}
 use Rattle.step.specs.declared.Refusal.{Refusal}
 use Rattle.step.specs.declared.Refusal.TheVariants.{Garbled}
 use Rattle.step.specs.declared.Step.{Step}
@@ -22,25 +20,27 @@ use Rattle.runfile.specs.Read.{Taken, taken, absent, Heads, heads, headless, rea
 use Rattle.runfile.specs.Read.{naf_line, front_line, bare_line, inhibit_line, scan_line, repeat_line, stop_line, put_line, within_line, read_line}
 use Rattle.runfile.specs.Read.{then_heads, head_of, with_head}
 use Rattle.runfile.proofs.Numbers.{read_number, field-written}
+use Rattle.std.specs.Prelude.{Result, Ok, Err}
+use Rattle.step.specs.Results.{Reading}
 
-bad-good : {q : Refusal} {s : Step} {A : Type 0} → Bad q ≡ Good s → A
+pub bad-good : {B : Type 0} {q : Refusal} {s : B} {A : Type 0} → Err q ≡ Ok s → A
 bad-good e = let z : ◌≡◌ {A = ℕ} 0 1 = cc in absurd (omega arith)
 
 -- each way to a good reading, with what then stands on the line
 
-and-then : (key l : List ℕ) (k : ℕ → List ℕ → Reading) (s : Step) {A : Type 0}
-    → ((v : ℕ) (r : List ℕ) → l ≡ key ++ (decimal v ++ r) → v < 100000000 → k v r ≡ Good s → A)
-    → and_then (read_field key l) k ≡ Good s
+pub and-then : {B : Type 0} (key l : List ℕ) (k : ℕ → List ℕ → Result B Refusal) (s : B) {A : Type 0}
+    → ((v : ℕ) (r : List ℕ) → l ≡ key ++ (decimal v ++ r) → v < 100000000 → k v r ≡ Ok s → A)
+    → and_then (read_field key l) k ≡ Ok s
     → A
-and-then key l k s {A} found e = go (read_field key l) refl e
+and-then key l k s {A = A} found e = go (read_field key l) refl e
   where
-    go : (t : Taken) → read_field key l ≡ t → and_then t k ≡ Good s → A
+    go : (t : Taken) → read_field key l ≡ t → and_then t k ≡ Ok s → A
     go (taken v r) q e = found v r (field-written key l v r q).0 (field-written key l v r q).1 e
     go absent q e = bad-good e
 
-and-ended : (l r : List ℕ) (s₀ s : Step) → (r ≡ [] → IsText l s₀) → ended r s₀ ≡ Good s → IsText l s
-and-ended l [] s₀ s found e = let q : s₀ ≡ s = cc in subst (IsText l) q (found refl)
-and-ended l (b ∷ r) s₀ s found e = bad-good e
+pub and-ended : {B : Type 0} (P : B → Type 0) (r : List ℕ) (s₀ s : B) → (r ≡ [] → P s₀) → ended r s₀ ≡ Ok s → P s
+and-ended P [] s₀ s found e = let q : s₀ ≡ s = cc in subst P q (found refl)
+and-ended P (b ∷ r) s₀ s found e = bad-good e
 
 heads-absent : {n a f : ℕ} {r : List ℕ} {A : Type 0} → headless ≡ heads n a f r → A
 heads-absent e = let z : ◌≡◌ {A = ℕ} 0 1 = cc in absurd (omega arith)
@@ -58,13 +58,13 @@ then-heads key l k h {A} found none e = go (read_field key l) refl e
 
 with-head : (key l : List ℕ) (k : ℕ → ℕ → ℕ → List ℕ → Reading) (s : Step) {A : Type 0}
     → ((n a f : ℕ) (r : List ℕ) → l ≡ key ++ (decimal n ++ field_then " a=" a (field_then " f=" f r))
-    → n < 100000000 → a < 100000000 → f < 100000000 → k n a f r ≡ Good s → A)
-    → with_head (head_of key l) k ≡ Good s
+    → n < 100000000 → a < 100000000 → f < 100000000 → k n a f r ≡ Ok s → A)
+    → with_head (head_of key l) k ≡ Ok s
     → A
 unfolding head_of
 with-head key l k s {A} found e = go (head_of key l) refl e
   where
-    go : (t : Heads) → head_of key l ≡ t → with_head t k ≡ Good s → A
+    go : (t : Heads) → head_of key l ≡ t → with_head t k ≡ Ok s → A
     go headless q e = bad-good e
     go (heads n a f r) q e =
         then-heads key l _ (heads n a f r)
@@ -93,65 +93,65 @@ equal-eq (k ∷ word) (b ∷ l) e = go (eqb b k) refl e (equal-eq word l)
 
 -- a good line of each kind is its step's text
 
-bare-written : (word : List ℕ) (s₀ : Step) (l : List ℕ) (s : Step) → (l ≡ word → IsText l s₀) → bare_line word s₀ l ≡ Good s → IsText l s
+bare-written : (word : List ℕ) (s₀ : Step) (l : List ℕ) (s : Step) → (l ≡ word → IsText l s₀) → bare_line word s₀ l ≡ Ok s → IsText l s
 unfolding bare_line
 bare-written word s₀ l s found e = go (equal word l) refl e
   where
-    go : (t : Bool) → equal word l ≡ t → exactly t s₀ ≡ Good s → IsText l s
+    go : (t : Bool) → equal word l ≡ t → exactly t s₀ ≡ Ok s → IsText l s
     go true t e = let q : s₀ ≡ s = cc in subst (IsText l) q (found (equal-eq word l t))
     go false t e = bad-good e
 
-naf-written : (l : List ℕ) (s : Step) → naf_line l ≡ Good s → IsText l s
+naf-written : (l : List ℕ) (s : Step) → naf_line l ≡ Ok s → IsText l s
 unfolding naf_line text
 naf-written l s =
     with-head (bytes "op=naf n=") l _ s λ n a f r hl hn ha hf.
     and-then (bytes " w=") r _ s λ w r₁ hr hw.
-    and-ended l r₁ (Command n a f w) s λ hz.
+    and-ended (IsText l) r₁ (Command n a f w) s λ hz.
     (rw (hr, hz) at hl, (hn, ha, hf, hw))
 
-front-written : (l : List ℕ) (s : Step) → front_line l ≡ Good s → IsText l s
+front-written : (l : List ℕ) (s : Step) → front_line l ≡ Ok s → IsText l s
 unfolding front_line text
 front-written l s =
     and-then (bytes "op=front n=") l _ s λ n r₁ hl hn.
     and-then (bytes " a=") r₁ _ s λ a r₂ h₁ ha.
     and-then (bytes " v=") r₂ _ s λ v r₃ h₂ hv.
-    and-ended l r₃ (Front n a v) s λ hz.
+    and-ended (IsText l) r₃ (Front n a v) s λ hz.
     (rw (h₁, h₂, hz) at hl, (hn, ha, hv))
 
-inhibit-written : (l : List ℕ) (s : Step) → inhibit_line l ≡ Good s → IsText l s
+inhibit-written : (l : List ℕ) (s : Step) → inhibit_line l ≡ Ok s → IsText l s
 unfolding inhibit_line text
 inhibit-written l s =
     and-then (bytes "op=i v=") l _ s λ v r hl hv.
-    and-ended l r (Inhibit v) s λ hz.
+    and-ended (IsText l) r (Inhibit v) s λ hz.
     (rw hz at hl, hv)
 
-scan-written : (l : List ℕ) (s : Step) → scan_line l ≡ Good s → IsText l s
+scan-written : (l : List ℕ) (s : Step) → scan_line l ≡ Ok s → IsText l s
 unfolding scan_line text
 scan-written l s =
     with-head (bytes "op=scan n=") l _ s λ n a f r hl hn ha hf.
     and-then (bytes " to=") r _ s λ to r₁ h₁ ht.
     and-then (bytes " limit=") r₁ _ s λ limit r₂ h₂ hm.
-    and-ended l r₂ (Scan n a f to limit) s λ hz.
+    and-ended (IsText l) r₂ (Scan n a f to limit) s λ hz.
     (rw (h₁, h₂, hz) at hl, (hn, ha, hf, ht, hm))
 
-repeat-written : (l : List ℕ) (s : Step) → repeat_line l ≡ Good s → IsText l s
+repeat-written : (l : List ℕ) (s : Step) → repeat_line l ≡ Ok s → IsText l s
 unfolding repeat_line text
 repeat-written l s =
     with-head (bytes "op=repeat n=") l _ s λ n a f r hl hn ha hf.
     and-then (bytes " limit=") r _ s λ limit r₁ h₁ hm.
     and-then (bytes " tries=") r₁ _ s λ tries r₂ h₂ ht.
-    and-ended l r₂ (Repeat n a f limit tries) s λ hz.
+    and-ended (IsText l) r₂ (Repeat n a f limit tries) s λ hz.
     (rw (h₁, h₂, hz) at hl, (hn, ha, hf, hm, ht))
 
-stop-written : (l : List ℕ) (s : Step) → stop_line l ≡ Good s → IsText l s
+stop-written : (l : List ℕ) (s : Step) → stop_line l ≡ Ok s → IsText l s
 unfolding stop_line text
 stop-written l s =
     with-head (bytes "op=stop n=") l _ s λ n a f r hl hn ha hf.
     and-then (bytes " limit=") r _ s λ limit r₁ h₁ hm.
-    and-ended l r₁ (Stop n a f limit) s λ hz.
+    and-ended (IsText l) r₁ (Stop n a f limit) s λ hz.
     (rw (h₁, hz) at hl, (hn, ha, hf, hm))
 
-put_written : (l : List ℕ) (s : Step) → put_line l ≡ Good s → IsText l s
+put_written : (l : List ℕ) (s : Step) → put_line l ≡ Ok s → IsText l s
 unfolding put_line text
 put_written l s =
     and-then (bytes "op=put n=") l _ s λ n r₁ hl hn.
@@ -159,25 +159,25 @@ put_written l s =
     and-then (bytes " to=") r₂ _ s λ to r₃ h₂ ht.
     and-then (bytes " limit=") r₃ _ s λ limit r₄ h₃ hm.
     and-then (bytes " w=") r₄ _ s λ w r₅ h₄ hw.
-    and-ended l r₅ (Put n a to limit w) s λ hz.
+    and-ended (IsText l) r₅ (Put n a to limit w) s λ hz.
     (rw (h₁, h₂, h₃, h₄, hz) at hl, (hn, ha, ht, hm, hw))
 
-within-written : (l : List ℕ) (s : Step) → within_line l ≡ Good s → IsText l s
+within-written : (l : List ℕ) (s : Step) → within_line l ≡ Ok s → IsText l s
 unfolding within_line text
 within-written l s =
     and-then (bytes "op=within n=") l _ s λ n r₁ hl hn.
     and-then (bytes " to=") r₁ _ s λ to r₂ h₁ ht.
     and-then (bytes " lo=") r₂ _ s λ lo r₃ h₂ hlo.
     and-then (bytes " hi=") r₃ _ s λ hi r₄ h₃ hhi.
-    and-ended l r₄ (Within n to lo hi) s λ hz.
+    and-ended (IsText l) r₄ (Within n to lo hi) s λ hz.
     (rw (h₁, h₂, h₃, hz) at hl, (hn, ht, hlo, hhi))
 
-or-good : (a b : Reading) (s : Step) {A : Type 0} → (a ≡ Good s → A) → (b ≡ Good s → A) → or_else a b ≡ Good s → A
-or-good (Good s₀) b s first second e = first e
-or-good (Bad q) b s first second e = second e
+or-good : (a b : Reading) (s : Step) {A : Type 0} → (a ≡ Ok s → A) → (b ≡ Ok s → A) → or_else a b ≡ Ok s → A
+or-good (Ok s₀) b s first second e = first e
+or-good (Err q) b s first second e = second e
 
 -- whatever is read as a step is the step's text
-pub good-is-text : (l : List ℕ) (s : Step) → read_line l ≡ Good s → IsText l s
+pub good-is-text : (l : List ℕ) (s : Step) → read_line l ≡ Ok s → IsText l s
 unfolding read_line text
 good-is-text l s =
     or-good (naf_line l) _ s (naf-written l s)
@@ -192,7 +192,7 @@ good-is-text l s =
     (or-good (within_line l) (stop_line l) s (within-written l s) (stop-written l s))))))))))
 
 -- the text of a step is read as the step
-pub text-is-good : (s : Step) → FieldsFit s → read_line (text s) ≡ Good s
+pub text-is-good : (s : Step) → FieldsFit s → read_line (text s) ≡ Ok s
 unfolding read_line text naf_line front_line bare_line inhibit_line scan_line repeat_line stop_line put_line within_line head_of
 text-is-good (Command n a f w) h = rw (read_number n _ h.0, read_number a _ h.1, read_number f _ h.2, read_number w _ h.3)
 text-is-good (Front n a v) h = rw (read_number n _ h.0, read_number a _ h.1, read_number v _ h.2)
@@ -213,15 +213,15 @@ text-is-good (Processor t) h = absurd h
 text-is-good (Within n to lo hi) h = rw (read_number n _ h.0, read_number to _ h.1, read_number lo _ h.2, read_number hi _ h.3)
 
 -- a bad reading has the one number, garbled
-abbrev pub OnlyGarbled : Reading → Type 0
-OnlyGarbled (Good s) = Unit {0}
-OnlyGarbled (Bad q) = q ≡ Garbled
+abbrev pub OnlyGarbled : {B : Type 0} → Result B Refusal → Type 0
+OnlyGarbled (Ok s) = Unit {0}
+OnlyGarbled (Err q) = q ≡ Garbled
 
-pub only-ended : (l : List ℕ) (s : Step) → OnlyGarbled (ended l s)
+pub only-ended : {B : Type 0} (l : List ℕ) (s : B) → OnlyGarbled (ended l s)
 only-ended [] s = tt
 only-ended (b ∷ l) s = refl
 
-pub only_then : (t : Taken) (k : ℕ → List ℕ → Reading) → ((v : ℕ) (r : List ℕ) → OnlyGarbled (k v r)) → OnlyGarbled (and_then t k)
+pub only_then : {B : Type 0} (t : Taken) (k : ℕ → List ℕ → Result B Refusal) → ((v : ℕ) (r : List ℕ) → OnlyGarbled (k v r)) → OnlyGarbled (and_then t k)
 only_then (taken v r) k h = h v r
 only_then absent k h = refl
 
@@ -230,8 +230,8 @@ only-head (heads n a f r) k h = h n a f r
 only-head headless k h = refl
 
 only-or : (a b : Reading) → OnlyGarbled b → OnlyGarbled (or_else a b)
-only-or (Good s) b h = tt
-only-or (Bad q) b h = h
+only-or (Ok s) b h = tt
+only-or (Err q) b h = h
 
 -- the last alternative decides the number
 only-garbled : (l : List ℕ) → OnlyGarbled (read_line l)
@@ -248,27 +248,27 @@ pub reads : (l : List ℕ) → Reads l (read_line l)
 reads l = go (read_line l) refl (only-garbled l)
   where
     go : (r : Reading) → read_line l ≡ r → OnlyGarbled r → Reads l r
-    go (Good s) e o = good-is-text l s e
-    go (Bad q) e o = (o, λ s h. bad-good (sym e ∙ (ap read_line h.0 ∙ text-is-good s h.1)))
+    go (Ok s) e o = good-is-text l s e
+    go (Err q) e o = (o, λ s h. bad-good (sym e ∙ (ap read_line h.0 ∙ text-is-good s h.1)))
 
 pub reads_of : (l : List ℕ) (r : Reading) → r ≡ read_line l → Reads l r
 reads_of l r e = subst⁻¹ (Reads l) e (reads l)
 
 -- and it is the only reading that says so
 pub reads_only : (l : List ℕ) (r : Reading) → Reads l r → r ≡ read_line l
-reads_only l (Good s) h = sym (ap read_line h.0 ∙ text-is-good s h.1)
-reads_only l (Bad q) h = go (read_line l) refl (reads l)
+reads_only l (Ok s) h = sym (ap read_line h.0 ∙ text-is-good s h.1)
+reads_only l (Err q) h = go (read_line l) refl (reads l)
   where
-    go : (r : Reading) → read_line l ≡ r → Reads l r → Bad q ≡ read_line l
-    go (Good s) e o = absurd (h.1 s o)
-    go (Bad q') e o = ap Bad (h.0 ∙ sym o.0) ∙ sym e
+    go : (r : Reading) → read_line l ≡ r → Reads l r → Err q ≡ read_line l
+    go (Ok s) e o = absurd (h.1 s o)
+    go (Err q') e o = ap Err (h.0 ∙ sym o.0) ∙ sym e
 
 -- no line says a put of lent words
-pub no-lent-line : (l : List ℕ) (n a to limit : ℕ) → read_line l ≡ Good (PutLent n a to limit) → ⊥
+pub no-lent-line : (l : List ℕ) (n a to limit : ℕ) → read_line l ≡ Ok (PutLent n a to limit) → ⊥
 no-lent-line l n a to limit e = (good-is-text l (PutLent n a to limit) e).1
 
 -- nor a transfer at the trigger processor's entry
-pub no-processor-line : (l : List ℕ) (t : Short) → read_line l ≡ Good (Processor t) → ⊥
+pub no-processor-line : (l : List ℕ) (t : Short) → read_line l ≡ Ok (Processor t) → ⊥
 no-processor-line l t e = (good-is-text l (Processor t) e).1
 
 -- a line in form has 72 bytes at most
@@ -319,5 +319,5 @@ pub short-text : (s : Step) → FieldsFit s → length (text s) ≤ 80
 short-text s h = omega (arith, longest-text s h)
 
 -- so a line of more than 80 bytes is garbled
-pub long-is-garbled : (l : List ℕ) → 80 < length l → read_line l ≡ Bad Garbled
-long-is-garbled l h = sym (reads_only l (Bad Garbled) (refl, λ s t. omega (arith, short-text s t.1, ap length t.0)))
+pub long-is-garbled : (l : List ℕ) → 80 < length l → read_line l ≡ Err Garbled
+long-is-garbled l h = sym (reads_only l (Err Garbled) (refl, λ s t. omega (arith, short-text s t.1, ap length t.0)))

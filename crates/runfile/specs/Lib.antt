@@ -1,4 +1,4 @@
--- What the contracts of `runfile` cite: the lines of the two files and what a reading claims, an executable reader, and its scanners' answers.
+-- What the contracts of `runfile` cite: the lines of the two files and what a reading claims, an executable reader, and the answers of the parts as it has them.
 pub mod Lines
-pub mod Places
+pub mod Parts
 pub mod Read

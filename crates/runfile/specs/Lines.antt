@@ -1,15 +1,12 @@
 -- The lines of run and crate files (RULES 7.1 to 7.4, 7.7): the text of each step and of each module, and what a reading of a line claims. These are the
 -- definitions to lay beside the paper; `Read` is an executable reader, which the claims here hold to them.
-use Rattle.std.specs.Prelude.{ℕ, ◌<◌, ◌≡◌, List, []}
+use Rattle.std.specs.Prelude.{ℕ, ◌<◌, ◌≡◌, List, [], Ok, Err}
 use Rattle.text.specs.Text.{bytes, field_then}
 use Rattle.kinds.specs.declared.Module.{Module}
-use Rattle.step.specs.declared.ModuleLine.{ModuleLine}
-use Rattle.step.specs.declared.ModuleLine.TheVariants.{Holds, Bad as Spoilt}
-use Rattle.step.specs.declared.Reading.{Reading}
-use Rattle.step.specs.declared.Reading.TheVariants.{Good, Bad}
 use Rattle.step.specs.declared.Refusal.TheVariants.{Garbled}
 use Rattle.step.specs.declared.Step.{Step}
 use Rattle.step.specs.declared.Step.TheVariants.{Command, Front, Z, C, Inhibit, LookAtMe, Scan, Repeat, Stop, Put, PutLent, Processor, Within}
+use Rattle.step.specs.Results.{ModuleLine, Reading}
 
 -- the line of a step
 unfoldable pub text : Step → List ℕ
@@ -67,10 +64,10 @@ IsModuleText l p = (l ≡ module_text p) × ModuleFits p
 
 -- what a reading of l claims: it is the text of this step; or it is garbled, and the text of no step
 abbrev pub Reads : List ℕ → Reading → Type 0
-Reads l (Good s) = IsText l s
-Reads l (Bad q) = (q ≡ Garbled) × ((s : Step) → IsText l s → ⊥)
+Reads l (Ok s) = IsText l s
+Reads l (Err q) = (q ≡ Garbled) × ((s : Step) → IsText l s → ⊥)
 
 -- the same of a crate line
 abbrev pub ReadsModule : List ℕ → ModuleLine → Type 0
-ReadsModule l (Holds p) = IsModuleText l p
-ReadsModule l (Spoilt q) = (q ≡ Garbled) × ((p : Module) → IsModuleText l p → ⊥)
+ReadsModule l (Ok p) = IsModuleText l p
+ReadsModule l (Err q) = (q ≡ Garbled) × ((p : Module) → IsModuleText l p → ⊥)

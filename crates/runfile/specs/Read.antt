@@ -1,16 +1,13 @@
 -- A reader of lines that computes, by recursive descent. It need not be believed: `reads` proves that each reading claims what `Lines`
 -- says of it, and `reads_only` that no other reading does. A line over 80 bytes is garbled (`long-is-garbled`) with no test of its
 -- length, since the longest run line in form has 72 bytes and the longest crate line 49.
-use Rattle.std.specs.Prelude.{ℕ, ◌+◌, ◌-◌, ◌*◌, Bool, true, false, cond, ◌&&◌, List, [], ◌∷◌, leb, ltb, eqb}
+use Rattle.std.specs.Prelude.{ℕ, ◌+◌, ◌-◌, ◌*◌, Bool, true, false, cond, ◌&&◌, List, [], ◌∷◌, leb, ltb, eqb, Result, Ok, Err}
 use Rattle.text.specs.Text.{bytes}
-use Rattle.kinds.specs.declared.Module.{Module}
-use Rattle.step.specs.declared.ModuleLine.{ModuleLine}
-use Rattle.step.specs.declared.ModuleLine.TheVariants.{Holds, Bad as Spoilt}
-use Rattle.step.specs.declared.Reading.{Reading}
-use Rattle.step.specs.declared.Reading.TheVariants.{Good, Bad}
+use Rattle.step.specs.declared.Refusal.{Refusal}
 use Rattle.step.specs.declared.Refusal.TheVariants.{Garbled}
 use Rattle.step.specs.declared.Step.{Step}
 use Rattle.step.specs.declared.Step.TheVariants.{Command, Front, Z, C, Inhibit, LookAtMe, Scan, Repeat, Stop, Put, Within}
+use Rattle.step.specs.Results.{ModuleLine, Reading}
 
 -- the bytes `0` to `9`
 abbrev pub digit : ℕ → Bool
@@ -48,25 +45,25 @@ equal [] (b ∷ l) = false
 equal (k ∷ ks) [] = false
 equal (k ∷ ks) (b ∷ l) = cond (eqb b k) (equal ks l) false
 
--- the step, if nothing is left of the line
-abbrev pub ended : List ℕ → Step → Reading
-ended [] s = Good s
-ended (b ∷ l) s = Bad Garbled
+-- the step or the module, if nothing is left of the line
+abbrev pub ended : {A : Type 0} → List ℕ → A → Result A Refusal
+ended [] s = Ok s
+ended (b ∷ l) s = Err Garbled
 
 -- what follows a number, if there is one
-abbrev pub and_then : Taken → (ℕ → List ℕ → Reading) → Reading
+abbrev pub and_then : {A : Type 0} → Taken → (ℕ → List ℕ → Result A Refusal) → Result A Refusal
 and_then (taken v l) k = k v l
-and_then absent k = Bad Garbled
+and_then absent k = Err Garbled
 
 -- the first that is good
 abbrev pub or_else : Reading → Reading → Reading
-or_else (Good s) r = Good s
-or_else (Bad q) r = r
+or_else (Ok s) r = Ok s
+or_else (Err q) r = r
 
 -- the step, if the test holds
 abbrev pub exactly : Bool → Step → Reading
-exactly true s = Good s
-exactly false s = Bad Garbled
+exactly true s = Ok s
+exactly false s = Err Garbled
 
 -- the numbers n, a and f taken from the front of a list of bytes, with what is left; or not there
 pub data Heads : Type 0 where
@@ -93,7 +90,7 @@ head_of key l = head_after (read_field key l)
 -- what follows the head, if it is there
 abbrev pub with_head : Heads → (ℕ → ℕ → ℕ → List ℕ → Reading) → Reading
 with_head (heads n a f l) k = k n a f l
-with_head headless k = Bad Garbled
+with_head headless k = Err Garbled
 
 -- a line of each kind, with the paper's form of it above
 -- op=naf n= a= f= w=
@@ -177,21 +174,11 @@ read_line l =
     (or_else (put_line l)
     (or_else (within_line l) (stop_line l))))))))))
 
--- what follows a number of a crate line, if there is one
-abbrev pub and_module : Taken → (ℕ → List ℕ → ModuleLine) → ModuleLine
-and_module (taken v l) k = k v l
-and_module absent k = Spoilt Garbled
-
--- the module, if nothing is left of the line
-abbrev pub ended_module : List ℕ → Module → ModuleLine
-ended_module [] p = Holds p
-ended_module (b ∷ l) p = Spoilt Garbled
-
 -- a line of a crate file: n= kind= r= wide=
 unfoldable pub read_module : List ℕ → ModuleLine
 read_module l =
-    and_module (read_field (bytes "n=") l) λ n l1.
-    and_module (read_field (bytes " kind=") l1) λ kind l2.
-    and_module (read_field (bytes " r=") l2) λ r l3.
-    and_module (read_field (bytes " wide=") l3) λ wide l4.
-    ended_module l4 (record { n = n; kind = kind; r = r; wide = wide })
+    and_then (read_field (bytes "n=") l) λ n l1.
+    and_then (read_field (bytes " kind=") l1) λ kind l2.
+    and_then (read_field (bytes " r=") l2) λ r l3.
+    and_then (read_field (bytes " wide=") l3) λ wide l4.
+    ended l4 (record { n = n; kind = kind; r = r; wide = wide })

@@ -1,38 +1,20 @@
-// Scans the parts that lines are made of: numbers, keys with their numbers, and the end. A place past the end has nothing left.
-ghost use Rattle.std.specs.Prelude.{◌≡◌, ◌<◌, drop};
-ghost use Rattle.runfile.specs.Places.{as_taken, as_heads};
-ghost use Rattle.runfile.specs.Read.{digit, open-ended, digits_from, number, read_field, ended, head_after};
+// The parts that lines are made of: numbers, and keys with their numbers. Each call answers what stands in front and the bytes behind it.
+ghost use Rattle.std.specs.Prelude.{◌≡◌};
+ghost use Rattle.runfile.specs.Lines.{Small};
+ghost use Rattle.runfile.specs.Parts.{as_taken, as_heads};
+ghost use Rattle.runfile.specs.Read.{open-ended, digits_from, number, read_field, head_of};
 
-use step::{Reading, Refusal, Step};
-
-// A number read at a place of a line, and the place after it; or none there.
+// The fields n, a and f with which a command and a transfer begin, and the bytes behind them.
 #[derive(Clone, Copy)]
-pub enum Number {
-    Value { value: u32, next: usize },
-    Missing,
-}
-
-// The fields n, a and f with which a command and a transfer begin, and the place after them; or not there.
-#[derive(Clone, Copy)]
-pub enum Head {
-    Fields { n: u32, a: u32, f: u32, next: usize },
-    NoHead,
+pub struct Head<'a> {
+    pub n: u32,
+    pub a: u32,
+    pub f: u32,
+    pub rest: &'a [u8],
 }
 
 // The least number of eight digits.
-const EIGHT_DIGITS: u32 = 10000000;
-
-fn wide(b: u8) -> u32
-    ensures { result ≡ b }
-{
-    b as u32
-}
-
-fn is_digit(b: u8) -> bool
-    ensures { result ≡ digit b }
-{
-    b'0' <= b && b <= b'9'
-}
+const EIGHT_DIGITS: u32 = 10_000_000;
 
 // A digit may follow the digits of v: none follows a leading zero, and none follows eight digits.
 fn is_open_ended(v: u32) -> bool
@@ -42,93 +24,50 @@ fn is_open_ended(v: u32) -> bool
 }
 
 // Goes on with a number whose digits so far give first.
-fn digits_at(line: &[u8], at: usize, first: u32) -> Number
-    requires { first < 100000000 }
-    ensures { as_taken line.now result ≡ digits_from first (drop at line.now) }
+fn digits(first: u32, line: &[u8]) -> Option<(u32, &[u8])>
+    requires { Small first }
+    ensures { as_taken result ≡ digits_from first line.now }
 {
-    let mut i = at;
     let mut v = first;
-    while i < line.len() {
-        let b = line[i];
-        if !is_digit(b) {
-            return Number::Value { value: v, next: i };
-        }
+    let mut rest = line;
+    while let Some((b, tail)) = rest.split_first()
+        && b.is_ascii_digit()
+    {
         if !is_open_ended(v) {
-            return Number::Missing;
+            return None;
         }
-        v = v * 10 + wide(b - b'0');
-        i += 1;
+        v = v * 10 + u32::from(b - b'0');
+        rest = tail;
     }
-    Number::Value { value: v, next: i }
+    Some((v, rest))
 }
 
-// The number at a place.
-fn number_at(line: &[u8], at: usize) -> Number
-    ensures { as_taken line.now result ≡ number (drop at line.now) }
+// The number in front.
+fn number(line: &[u8]) -> Option<(u32, &[u8])>
+    ensures { as_taken result ≡ number line.now }
 {
-    if line.len() <= at {
-        return Number::Missing;
-    }
-    let b = line[at];
-    if !is_digit(b) {
-        return Number::Missing;
-    }
-    digits_at(line, at + 1, wide(b - b'0'))
-}
-
-// The number that follows key at a place. One test asks whether the line has room for the key and a digit behind it.
-pub fn field_at(line: &[u8], at: usize, key: &[u8]) -> Number
-    ensures { as_taken line.now result ≡ read_field key.now (drop at line.now) }
-{
-    if line.len() <= at || line.len() - at <= key.len() {
-        return Number::Missing;
-    }
-    let mut j = 0;
-    while j < key.len() {
-        if line[at + j] != key[j] {
-            return Number::Missing;
-        }
-        j += 1;
-    }
-    number_at(line, at + j)
-}
-
-// The fields n, a and f of a line, given the first.
-pub fn head_of(line: &[u8], first: Number) -> Head
-    ensures { as_heads line.now result ≡ head_after (as_taken line.now first) }
-{
-    let Number::Value {
-        value: n,
-        next: after_n,
-    } = first
-    else {
-        return Head::NoHead;
-    };
-    let Number::Value {
-        value: a,
-        next: after_a,
-    } = field_at(line, after_n, b" a=")
-    else {
-        return Head::NoHead;
-    };
-    let Number::Value { value: f, next } = field_at(line, after_a, b" f=") else {
-        return Head::NoHead;
-    };
-    Head::Fields {
-        n: n,
-        a: a,
-        f: f,
-        next: next,
-    }
-}
-
-// step, if nothing is left of line at a place.
-pub fn end_at(line: &[u8], at: usize, step: Step) -> Reading
-    ensures { result ≡ ended (drop at line.now) step }
-{
-    if at < line.len() {
-        Reading::Bad(Refusal::Garbled)
+    let (b, rest) = line.split_first()?;
+    if b.is_ascii_digit() {
+        digits(u32::from(b - b'0'), rest)
     } else {
-        Reading::Good(step)
+        None
     }
+}
+
+// The number behind key, which is compared as a whole: `strip_prefix` is slower.
+pub fn field<'a, const K: usize>(line: &'a [u8], key: &[u8; K]) -> Option<(u32, &'a [u8])>
+    ensures { as_taken result ≡ read_field key.now line.now }
+{
+    let (front, rest) = line.split_first_chunk::<K>()?;
+    if front == key { number(rest) } else { None }
+}
+
+// The fields n, a and f, the first behind key.
+pub fn head_of<'a, const K: usize>(line: &'a [u8], key: &[u8; K]) -> Option<Head<'a>>
+    ensures { as_heads result ≡ head_of key.now line.now }
+{
+    let (n, rest) = field(line, key)?;
+    let (a, rest) = field(rest, b" a=")?;
+    let (f, rest) = field(rest, b" f=")?;
+    Some(Head { n, a, f, rest })
 }

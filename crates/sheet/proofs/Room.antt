@@ -1,21 +1,17 @@
 -- How many bytes the printed text takes, at most, and so where it ends.
-use Prim.Native.Nat.{ℕ, ◌+◌, ◌*◌, ◌≤◌, ◌<◌, min}
-use mathlib.Core.Path.{◌≡◌, refl, sym, ap, subst, ◌∙◌}
+use Prim.Native.Nat.{ℕ, ◌+◌, ◌*◌, ◌≤◌, ◌<◌}
+use mathlib.Core.Path.{◌≡◌, sym, ap, subst, ◌∙◌}
 use mathlib.Core.List.{List, [], ◌∷◌, ◌++◌, append-nil, append_assoc}
-use native.Mathlib.Nat.{add-zero, min-le_right, min-eq_left, min-eq_right}
+use native.Mathlib.Nat.{add-zero, min-le_right}
 use native.Mathlib.Numerals.{add-one}
 use native.Mathlib.Omega.{arith}
 use lib.ListN.{length, take, get_or, length-append, length-take}
-use lib.Seq.{length-take-le, take-suc, take-length, take_all}
-use lib.Dec.{leb}
-use borrow.Author.Tests.{leb-true, leb-false}
-use mathlib.Core.Bool.{Bool, true, false}
+use lib.Seq.{length-take-le, take-suc, take-length}
 use Rattle.text.specs.Text.{bytes, decimal}
 use Rattle.text.specs.Paste.{Put}
 use Rattle.text.proofs.Decimal.{length-ten, field-short}
 use Rattle.text.proofs.Paste.{paste-nothing}
 use Rattle.step.specs.Refusals.{refusal_number}
-use Rattle.transfer.specs.declared.Transfer.{Transfer}
 use Rattle.controller.specs.Steps.{Out}
 use Rattle.controller.specs.declared.Answer.{Answer}
 use Rattle.controller.specs.declared.Answer.TheVariants.{Replied, Taken, Done, Looked, Transferred, Wrote, Listed, Refused}
@@ -87,7 +83,7 @@ pub of-answer : {o p : List ℕ} {at next : ℕ} {a b : Answer} → a ≡ b → 
 of-answer e f = of-text (ap body (sym e)) f
 
 -- a step's text takes at most 8258 bytes, if its buffer has at most 512 words
-stored-few : (a : Answer) (b : List ℕ) → length b ≤ 512 → length (stored a b) ≤ 512
+pub stored-few : (a : Answer) (b : List ℕ) → length b ≤ 512 → length (stored a b) ≤ 512
 stored-few (Replied p) b h = omega arith
 stored-few (Taken v) b h = omega arith
 stored-few Done b h = omega arith
@@ -103,23 +99,3 @@ step-short k o h =
     let n = stored-few o.answer o.buffer h in
     let w = words-short (stored o.answer o.buffer) in
     rw (length-append (step_line k o.answer) (word_lines (stored o.answer o.buffer))) (omega (arith, line-short k o.answer, w, n))
-
--- the words that were stored, where an answer says so many
-stored-least : (n : ℕ) (b : List ℕ) → take (min n (length b)) b ≡ take n b
-stored-least n b = go (leb n (length b)) refl
-  where
-    go : (t : Bool) → leb n (length b) ≡ t → take (min n (length b)) b ≡ take n b
-    go true t = ap (λ (k : ℕ). take k b) (min-eq_left (leb-true n (length b) t))
-    go false t =
-        let over : length b < n = leb-false n (length b) t in
-        let most : length b ≤ n = omega arith in
-        ap (λ (k : ℕ). take k b) (min-eq_right most) ∙ take-length b ∙ sym (take_all n b most)
-
-pub stored-transfer : (a : Answer) (p : Transfer) (b : List ℕ) (n : ℕ) → a ≡ Transferred p → n ≡ min p.words (length b)
-    → (take n b ≡ stored a b) × (n ≤ length b)
-stored-transfer a p b n e h =
-    (ap (λ (k : ℕ). take k b) h ∙ stored-least p.words b ∙ ap (λ (v : Answer). stored v b) (sym e), omega (arith, h, min-le_right p.words (length b)))
-
-pub stored-listing : (a : Answer) (count : ℕ) (b : List ℕ) (n : ℕ) → a ≡ Listed count → n ≡ min count (length b) → (take n b ≡ stored a b) × (n ≤ length b)
-stored-listing a count b n e h =
-    (ap (λ (k : ℕ). take k b) h ∙ stored-least count b ∙ ap (λ (v : Answer). stored v b) (sym e), omega (arith, h, min-le_right count (length b)))

@@ -1,16 +1,14 @@
 -- The sheet: what the program prints of the bytes of crate.txt and run.txt (RULES 7.9 to 7.13).
-use Rattle.std.specs.Prelude.{ℕ, ◌+◌, List, [], ◌∷◌, ◌++◌, map, replicate}
+use Rattle.std.specs.Prelude.{ℕ, ◌+◌, List, [], ◌∷◌, ◌++◌, map, replicate, Ok, Err}
 use Rattle.lines.specs.Lines.{lines_of}
 use Rattle.runfile.specs.Read.{read_line, read_module}
 use Rattle.regroup.specs.Lists.{outs}
 use Rattle.dataway.specs.Crate.{empty_crate}
 use Rattle.step.specs.declared.Refusal.{Refusal}
-use Rattle.step.specs.declared.ModuleLine.{ModuleLine}
-use Rattle.step.specs.declared.ModuleLine.TheVariants.{Holds, Bad}
-use Rattle.step.specs.declared.Verdict.TheVariants.{Fine, Refuse}
 use Rattle.controller.specs.Steps.{Order, order, Out, leaves, gives}
 use Rattle.rehearsal.specs.Modules.{install_of}
 use Rattle.sheet.specs.Answers.{step_text, crate_text}
+use Rattle.step.specs.Results.{ModuleLine}
 
 -- ---- crate.txt: what its lines come to, the crate, or the number of the first bad line and its refusal
 pub data Built : Type 0 where
@@ -19,15 +17,15 @@ pub data Built : Type 0 where
 
 -- the station of a crate line
 abbrev pub station_of : ModuleLine → ℕ
-station_of (Holds p) = p.n
-station_of (Bad q) = 0
+station_of (Ok p) = p.n
+station_of (Err q) = 0
 
 -- lines from number k on, on the memory m, after a line for the station `previous`, 0 where there was none
 unfoldable pub build_from : (k previous : ℕ) → List ℕ → List (List ℕ) → Built
 build_from k previous m [] = whole m
 build_from k previous m (l ∷ ls) =
     let p = install_of m previous (read_module l) in
-    elim p.verdict [ Fine ↦ build_from (k + 1) (station_of (read_module l)) p.memory ls | Refuse q ↦ broken k q ]
+    elim p.verdict [ (Ok tt) ↦ build_from (k + 1) (station_of (read_module l)) p.memory ls | Err q ↦ broken k q ]
 
 -- ---- run.txt: a line is a step of a list. Its buffer is its own, 512 words of 0
 abbrev pub line_order : List ℕ → Order

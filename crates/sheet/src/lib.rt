@@ -8,44 +8,29 @@ ghost use Rattle.controller.specs.declared.Answer.{Answer};
 ghost use Rattle.sheet.specs.Answers.{body, step_line, word_line, word_lines, stored, step_text, crate_text};
 
 use controller::Answer;
-use dataway::lam::LamReading;
-use lines::least;
-use station::Reply;
 use step::Refusal;
 use text::{put_behind, put_bytes, put_field};
-use transfer::Transfer;
 
 // The most bytes that one step prints: a line of 66 bytes, and 512 word lines of 16.
 pub const STEP_ROOM: usize = 8258;
 
-// Puts the fields of a command's answer.
-fn put_reply(out: &mut [u8], at: usize, p: Reply) -> usize
-    requires { at + 50 ≤ length out.old }
-    ensures { Put out.old at (body (Answer.Replied p)) out.new result }
+// Puts three keys, each with a number. Inlined, so that the compiler sees how long the keys are: a line took a fifth longer without.
+#[inline(always)]
+fn put_three(
+    out: &mut [u8],
+    at: usize,
+    first: (&[u8], u32),
+    second: (&[u8], u32),
+    third: (&[u8], u32),
+) -> usize
+    requires { at + length first.0.now + length second.0.now + length third.0.now + 30 ≤ length out.old }
+    ensures { Put out.old at
+        ((first.entry.0.now ++ decimal first.entry.1) ++ (second.entry.0.now ++ decimal second.entry.1) ++ (third.entry.0.now ++ decimal third.entry.1))
+        out.new result }
 {
-    let after_x = put_field(out, at, b" x=", p.x);
-    let after_q = put_field(out, after_x, b" q=", p.q);
-    put_field(out, after_q, b" r=", p.r)
-}
-
-// Puts the fields of the Look-at-Me reading.
-fn put_reading(out: &mut [u8], at: usize, p: LamReading) -> usize
-    requires { at + 50 ≤ length out.old }
-    ensures { Put out.old at (body (Answer.Looked p)) out.new result }
-{
-    let after_l = put_field(out, at, b" l=", p.l);
-    let after_count = put_field(out, after_l, b" count=", p.count);
-    put_field(out, after_count, b" first=", p.first)
-}
-
-// Puts the fields of a transfer's answer.
-fn put_transfer(out: &mut [u8], at: usize, p: Transfer) -> usize
-    requires { at + 50 ≤ length out.old }
-    ensures { Put out.old at (body (Answer.Transferred p)) out.new result }
-{
-    let after_end = put_field(out, at, b" end=", p.end);
-    let after_words = put_field(out, after_end, b" words=", p.words);
-    put_field(out, after_words, b" cycles=", p.cycles)
+    let after_first = put_field(out, at, first.0, first.1);
+    let after_second = put_field(out, after_first, second.0, second.1);
+    put_field(out, after_second, third.0, third.1)
 }
 
 // Puts the fields of an answer.
@@ -54,24 +39,36 @@ fn put_body(out: &mut [u8], at: usize, answer: Answer) -> usize
     ensures { Put out.old at (body answer) out.new result }
 {
     match answer {
-        Answer::Replied(p) => put_reply(out, at, p),
+        Answer::Replied(p) => put_three(out, at, (b" x=", p.x), (b" q=", p.q), (b" r=", p.r)),
         Answer::Taken(v) => put_field(out, at, b" taken=", v),
         Answer::Done => put_bytes(out, at, b" done=1"),
-        Answer::Looked(p) => put_reading(out, at, p),
-        Answer::Transferred(p) => put_transfer(out, at, p),
-        Answer::Wrote(p) => put_transfer(out, at, p),
+        Answer::Looked(p) => put_three(
+            out,
+            at,
+            (b" l=", p.l),
+            (b" count=", p.count),
+            (b" first=", p.first),
+        ),
+        Answer::Transferred(p) | Answer::Wrote(p) => put_three(
+            out,
+            at,
+            (b" end=", p.end),
+            (b" words=", p.words),
+            (b" cycles=", p.cycles),
+        ),
         Answer::Listed(count) => put_field(out, at, b" words=", count),
         Answer::Refused(q) => put_field(out, at, b" refused=", step::refusal_number(q)),
     }
 }
 
-// Puts the number of step k: behind the five bytes of its key, then the key.
-fn put_number(out: &mut [u8], at: usize, k: u32) -> usize
-    requires { at + 15 ≤ length out.old }
-    ensures { Put out.old at (bytes "step=" ++ decimal k) out.new result }
+// Puts a key and a number: the number behind as many bytes as the key has, then the key.
+#[inline(always)]
+fn put_keyed(out: &mut [u8], at: usize, key: &[u8], n: u32) -> usize
+    requires { at + length key.now + 10 ≤ length out.old }
+    ensures { Put out.old at (key.now ++ decimal n) out.new result }
 {
-    let next = put_behind(out, at, 5, k);
-    put_bytes(out, at, b"step=");
+    let next = put_behind(out, at, key.len(), n);
+    put_bytes(out, at, key);
     next
 }
 
@@ -80,18 +77,17 @@ fn put_line(out: &mut [u8], at: usize, k: u32, answer: Answer) -> usize
     requires { at + 66 ≤ length out.old }
     ensures { Put out.old at (step_line k answer) out.new result }
 {
-    let next = put_number(out, at, k);
+    let next = put_keyed(out, at, b"step=", k);
     let last = put_body(out, next, answer);
     put_bytes(out, last, b"\n")
 }
 
-// Puts the line of one stored word: the number behind the five bytes of its key, then the key.
+// Puts the line of one stored word.
 fn put_word(out: &mut [u8], at: usize, w: u32) -> usize
     requires { at + 16 ≤ length out.old }
     ensures { Put out.old at (word_line w) out.new result }
 {
-    let next = put_behind(out, at, 5, w);
-    put_bytes(out, at, b"word=");
+    let next = put_keyed(out, at, b"word=", w);
     put_bytes(out, next, b"\n")
 }
 
@@ -101,29 +97,27 @@ fn put_words(out: &mut [u8], at: usize, words: &[u32]) -> usize
     ensures { Put out.old at (word_lines words.now) out.new result }
 {
     let mut next = at;
-    let mut i = 0;
-    while i < words.len() {
-        next = put_word(out, next, words[i]);
-        i += 1;
+    for w in words {
+        next = put_word(out, next, *w);
     }
     next
 }
 
-// How many of a buffer's words an answer says were stored; all of them where it says more.
-fn count_stored(answer: Answer, buffer: &[u32]) -> usize
-    ensures buffer_value { take result buffer.now ≡ stored answer buffer.now }
-    ensures upper_bound { result ≤ length buffer.now }
+// The words of a buffer that an answer says were stored; all of them where it says more.
+fn stored(answer: Answer, buffer: &[u32]) -> &[u32]
+    ensures { result.now ≡ stored answer buffer.now }
 {
-    match answer {
-        Answer::Replied(_) => 0,
-        Answer::Taken(_) => 0,
-        Answer::Done => 0,
-        Answer::Looked(_) => 0,
-        Answer::Transferred(p) => least(p.words as usize, buffer.len()),
-        Answer::Wrote(_) => 0,
-        Answer::Listed(count) => least(count as usize, buffer.len()),
-        Answer::Refused(_) => 0,
-    }
+    let count = match answer {
+        Answer::Transferred(p) => p.words,
+        Answer::Listed(count) => count,
+        Answer::Replied(_)
+        | Answer::Taken(_)
+        | Answer::Done
+        | Answer::Looked(_)
+        | Answer::Wrote(_)
+        | Answer::Refused(_) => 0,
+    };
+    &buffer[..buffer.len().min(count as usize)]
 }
 
 // Puts what step k prints: its line, and a word line for each word that it stored in its buffer. Answers the index after them.
@@ -132,8 +126,7 @@ pub fn put_step(out: &mut [u8], at: usize, k: u32, answer: Answer, buffer: &[u32
     ensures { Put out.old at (step_text k (record { answer = answer; buffer = buffer.now })) out.new result }
 {
     let next = put_line(out, at, k, answer);
-    let n = count_stored(answer, buffer);
-    put_words(out, next, &buffer[..n])
+    put_words(out, next, stored(answer, buffer))
 }
 
 // Puts what line k of the crate file prints, where it is refused.

@@ -4,7 +4,6 @@ use Prim.Native.Nat.{ℕ, ◌-◌, ◌≤◌, ◌<◌}
 use mathlib.Core.Path.{◌≡◌, refl, sym, ap, ◌∙◌}
 use mathlib.Core.Bool.{false}
 use mathlib.Core.List.{List, [], ◌++◌}
-use native.Mathlib.Omega.{arith}
 use lib.Dec.{ltb}
 use lib.ListN.{length}
 use lib.Seq.{take_all}
@@ -16,10 +15,6 @@ use Rattle.listfile.specs.Listing.{storing, state_of, Held}
 use Rattle.listfile.specs.declared.ListReader.{ListReader}
 use Rattle.listfile.proofs.Whole.{words-held, lines-held}
 use Rattle.shell.specs.Handed.{Listed, Stored}
-
--- before the file
-pub listed-none : Listed (fresh [])
-listed-none = record { read = []; whole = omega arith; same = refl }
 
 -- one part more, with no line past the last that is read
 pub listed_more : {a b : Cutting (List ℕ)} (t : List ℕ) → Listed a → 0 < length t → ltb (99999 - a.number) (length (cut [] t)) ≡ false
@@ -46,7 +41,3 @@ stored-all f t l x h g =
       lines = lines-held t l x f.read h c ∙ ap length (all_read f.read f.whole);
       same = words-held t l x f.read h c;
     }
-
--- a reader that has read nothing
-pub start-list : {l w : List ℕ} → length l ≡ 81 → length w ≡ 599994 → Held (record { fill = 0; number = 0 }) l w
-start-list h k = record { filled = omega arith; lined = h; within = omega arith; room = k }

@@ -6,19 +6,22 @@ mod arguments;
 mod reason;
 mod steps;
 
-ghost use Rattle.std.specs.Prelude.{◌≡◌, true, [], ◌≤◌, length, take};
+ghost use Rattle.std.specs.Prelude.{◌≡◌, [], ◌≤◌, length, take, IfSome, IfOk, MatchResult};
 ghost use Rattle.dataway.specs.Crate.{empty_crate};
 ghost use Rattle.reader.specs.Reading.{state_of, Held, Ready, Took};
 ghost use Rattle.shell.specs.Handed.{Reached, Closed, Handed};
 
 pub use arguments::{Files, argument_count, files_named};
 use lines::{LINES, has_past};
-use reader::Reader;
+use reader::{Phase, Reader};
 use reason::say_reason;
 use sheet::STEP_ROOM;
 use std::io::{ErrorKind, Read};
 use std::{fs, io, str};
-pub use steps::{Listing, take_list};
+pub use steps::take_list;
+
+// What comes of a file that cannot be read.
+const UNREAD: &[u8] = b"; what was not read counts as missing";
 
 // Says something of a file.
 fn say(err: &impl Print, path: &[u8], what: &[u8]) {
@@ -61,65 +64,50 @@ fn open<R: fs::Files>(
     }
 }
 
-// What a read gave: so many bytes, and none at the end of a file. ok where it did not fail.
-#[derive(Clone, Copy)]
-struct Got {
-    ok: bool,
-    count: usize,
-}
-
-// Reads once. Where it cannot, says so, and what comes of that.
+// Reads once: so many bytes, and none at the end of a file. Where it cannot, says so, and what comes of that.
 fn read_some(
     file: &mut impl Read,
     err: &impl Print,
     path: &[u8],
     text: &mut [u8],
     unread: &[u8],
-) -> Got
-    ensures { result.count ≤ length text.new }
+) -> Option<usize>
+    ensures { IfSome result (λ n. n ≤ length text.new) }
 {
     match file.read(text) {
-        Ok(count) => Got {
-            ok: true,
-            count: count,
-        },
+        Ok(count) => Some(count),
         Err(why) => {
             say_unread(err, path, unread, &why);
-            Got {
-                ok: false,
-                count: 0,
-            }
+            None
         }
     }
 }
 
-// What was written: ok where it was all of it, and its length in the output buffer.
+// Not all of the first `at` bytes of the output buffer could be written, and that was said.
 #[derive(Clone, Copy)]
-pub struct Told {
-    pub ok: bool,
+pub struct Unwritten {
     pub at: usize,
 }
 
-// Writes the first `at` bytes out. Where it cannot, says so.
-pub fn write_out(rt: &impl Print, err: &impl Print, out: &[u8], at: usize, what: &[u8]) -> Told
+// Writes the first `at` bytes out, and answers how many they are. Where it cannot, says so.
+pub fn write_out(
+    rt: &impl Print,
+    err: &impl Print,
+    out: &[u8],
+    at: usize,
+    what: &[u8],
+) -> Result<usize, Unwritten>
     requires { at ≤ length out.now }
-    ensures { result.at ≡ at }
+    ensures { MatchResult result (λ n. n ≡ at) (λ u. u.at ≡ at) }
 {
     match rt.write_all(&out[..at]) {
-        Ok(()) => Told { ok: true, at: at },
+        Ok(()) => Ok(at),
         Err(why) => {
             say(err, b"cannot write ", what);
             say_reason(err, b"; what was written is not all of it", &why);
-            Told { ok: false, at: at }
+            Err(Unwritten { at })
         }
     }
-}
-
-// What a turn of the work left: ok where all that was printed could be written.
-#[derive(Clone, Copy)]
-pub struct Turn {
-    pub ok: bool,
-    pub reader: Reader,
 }
 
 // Writes the output buffer out where it may lack room for one more line.
@@ -130,30 +118,17 @@ fn make_room(
     line: &[u8],
     memory: &[u32],
     out: &[u8],
-) -> Turn
+) -> Result<Reader, Unwritten>
     requires held { Held s line.now memory.now out.now }
-    requires in_bounds { 8258 ≤ length out.now }
-    ensures ready { Ready result.reader line.now memory.now out.now }
-    ensures took { result.ok ≡ true → Took (state_of s line.now memory.now out.now) [] (state_of result.reader line.now memory.now out.now) }
+    requires room { 8258 ≤ length out.now }
+    ensures ready { IfOk result (λ r. Ready r line.now memory.now out.now) }
+    ensures took { IfOk result (λ r. Took (state_of s line.now memory.now out.now) [] (state_of r line.now memory.now out.now)) }
 {
-    let at = s.at;
-    if at <= out.len() - STEP_ROOM {
-        return Turn {
-            ok: true,
-            reader: s,
-        };
+    if s.at <= out.len() - STEP_ROOM {
+        return Ok(s);
     }
-    let told = write_out(rt, err, out, at, b"the sheet");
-    Turn {
-        ok: told.ok,
-        reader: Reader {
-            fill: s.fill,
-            number: s.number,
-            phase: s.phase,
-            previous: s.previous,
-            at: 0,
-        },
-    }
+    write_out(rt, err, out, s.at, b"the sheet")?;
+    Ok(Reader { at: 0, ..s })
 }
 
 // Takes all of text, unless the output fails.
@@ -165,32 +140,27 @@ fn take_text(
     line: &mut [u8],
     memory: &mut [u32],
     out: &mut [u8],
-) -> Turn
+) -> Result<Reader, Unwritten>
     requires held { Held s line.old memory.old out.old }
-    requires in_bounds { 8258 ≤ length out.old }
-    ensures held_2 { Held result.reader line.new memory.new out.new }
-    ensures took { result.ok ≡ true → Took (state_of s line.old memory.old out.old) text.now (state_of result.reader line.new memory.new out.new) }
+    requires room { 8258 ≤ length out.old }
+    ensures stays_held { IfOk result (λ r. Held r line.new memory.new out.new) }
+    ensures took { IfOk result (λ r. Took (state_of s line.old memory.old out.old) text.now (state_of r line.new memory.new out.new)) }
 {
     let mut r = s;
     let mut from = 0;
+    // A `while`: a turn goes on behind what there was room for.
     while from < text.len() {
-        let room = make_room(rt, err, r, line, memory, out);
-        if !room.ok {
-            return room;
-        }
-        let p = reader::chunk_lines(&text[from..], room.reader, line, memory, out);
+        let room = make_room(rt, err, r, line, memory, out)?;
+        let p = reader::chunk_lines(&text[from..], room, line, memory, out);
         from += p.next;
         r = p.reader;
     }
-    Turn {
-        ok: true,
-        reader: r,
-    }
+    Ok(r)
 }
 
 // The file may have bytes that count after text, which led from one state to the other. Lines past the last that is read do not, and that is said.
 fn goes_on(err: &impl Print, path: &[u8], text: &[u8], before: Reader, after: Reader) -> bool {
-    if after.phase >= 2 {
+    if after.phase == Phase::Ended {
         return false;
     }
     if after.number < LINES {
@@ -203,58 +173,9 @@ fn goes_on(err: &impl Print, path: &[u8], text: &[u8], before: Reader, after: Re
     !past
 }
 
-// What one read left: more where the file may have bytes that count.
-#[derive(Clone, Copy)]
-pub struct Part {
-    pub more: bool,
-    pub ok: bool,
-    pub reader: Reader,
-}
-
-// Reads once, and takes what was read.
-fn take_some(
-    rt: &impl Print,
-    err: &impl Print,
-    file: &mut impl Read,
-    path: &[u8],
-    text: &mut [u8],
-    s: Reader,
-    line: &mut [u8],
-    memory: &mut [u32],
-    out: &mut [u8],
-) -> Part
-    requires held { Held s line.old memory.old out.old }
-    requires in_bounds { 8258 ≤ length out.old }
-    ensures held_2 { Held result.reader line.new memory.new out.new }
-    ensures reached { result.ok ≡ true → Reached (state_of s line.old memory.old out.old) (state_of result.reader line.new memory.new out.new) }
-{
-    let got = read_some(
-        file,
-        err,
-        path,
-        text,
-        b"; what was not read counts as missing",
-    );
-    let n = got.count;
-    if n == 0 {
-        return Part {
-            more: false,
-            ok: true,
-            reader: s,
-        };
-    }
-    let t = take_text(rt, err, &text[..n], s, line, memory, out);
-    let r = t.reader;
-    let more = goes_on(err, path, &text[..n], s, r);
-    Part {
-        more: more,
-        ok: t.ok,
-        reader: r,
-    }
-}
-
-// Reads and takes an open file to its end, or as far as its bytes count. A proved loop has to end, and nothing says that a file does, so the loop counts
-// its turns down from a number that no run uses up.
+// Reads and takes an open file to its end, or as far as its bytes count. A proved loop has to end, and nothing says that a file does, so the loop has a
+// number of turns that no run uses up.
+// `take_parts` has a loop of its own: a failed read is no end of the file there, and one loop over both readers would be longer than the two.
 fn take_open(
     rt: &impl Print,
     err: &impl Print,
@@ -265,35 +186,24 @@ fn take_open(
     line: &mut [u8],
     memory: &mut [u32],
     out: &mut [u8],
-) -> Turn
+) -> Result<Reader, Unwritten>
     requires held { Held s line.old memory.old out.old }
-    requires in_bounds { 8258 ≤ length out.old }
-    ensures held_2 { Held result.reader line.new memory.new out.new }
-    ensures reached { result.ok ≡ true → Reached (state_of s line.old memory.old out.old) (state_of result.reader line.new memory.new out.new) }
+    requires room { 8258 ≤ length out.old }
+    ensures stays_held { IfOk result (λ r. Held r line.new memory.new out.new) }
+    ensures reached { IfOk result (λ r. Reached (state_of s line.old memory.old out.old) (state_of r line.new memory.new out.new)) }
 {
     let mut r = s;
-    let mut turns = u64::MAX;
-    while turns > 0 {
-        turns -= 1;
-        let t = take_some(rt, err, file, path, text, r, line, memory, out);
-        r = t.reader;
-        if !t.ok {
-            return Turn {
-                ok: false,
-                reader: r,
-            };
-        }
-        if !t.more {
-            return Turn {
-                ok: true,
-                reader: r,
-            };
+    for _ in 0..u64::MAX {
+        let before = r;
+        let Some(n @ 1..) = read_some(file, err, path, text, UNREAD) else {
+            return Ok(r);
+        };
+        r = take_text(rt, err, &text[..n], before, line, memory, out)?;
+        if !goes_on(err, path, &text[..n], before, r) {
+            return Ok(r);
         }
     }
-    Turn {
-        ok: false,
-        reader: r,
-    }
+    Err(Unwritten { at: r.at })
 }
 
 // The end of a file.
@@ -304,20 +214,14 @@ fn end_file(
     line: &[u8],
     memory: &mut [u32],
     out: &mut [u8],
-) -> Turn
+) -> Result<Reader, Unwritten>
     requires held { Held s line.now memory.old out.old }
-    requires in_bounds { 8258 ≤ length out.old }
-    ensures held_2 { Held result.reader line.now memory.new out.new }
-    ensures closed { result.ok ≡ true → Closed (state_of s line.now memory.old out.old) (state_of result.reader line.now memory.new out.new) }
+    requires room { 8258 ≤ length out.old }
+    ensures stays_held { IfOk result (λ r. Held r line.now memory.new out.new) }
+    ensures closed { IfOk result (λ r. Closed (state_of s line.now memory.old out.old) (state_of r line.now memory.new out.new)) }
 {
-    let room = make_room(rt, err, s, line, memory, out);
-    if !room.ok {
-        return room;
-    }
-    Turn {
-        ok: true,
-        reader: reader::finish(room.reader, line, memory, out),
-    }
+    let room = make_room(rt, err, s, line, memory, out)?;
+    Ok(reader::finish(room, line, memory, out))
 }
 
 // Takes the file at path. One that is missing is empty.
@@ -330,41 +234,28 @@ fn take_file<R: fs::Files + Print>(
     line: &mut [u8],
     memory: &mut [u32],
     out: &mut [u8],
-) -> Turn
+) -> Result<Reader, Unwritten>
     requires held { Held s line.old memory.old out.old }
-    requires in_bounds { 8258 ≤ length out.old }
-    ensures held_2 { Held result.reader line.new memory.new out.new }
-    ensures closed { result.ok ≡ true → Closed (state_of s line.old memory.old out.old) (state_of result.reader line.new memory.new out.new) }
+    requires room { 8258 ≤ length out.old }
+    ensures stays_held { IfOk result (λ r. Held r line.new memory.new out.new) }
+    ensures closed { IfOk result (λ r. Closed (state_of s line.old memory.old out.old) (state_of r line.new memory.new out.new)) }
 {
-    let opened = open(
-        rt,
-        err,
-        path,
-        b" is missing; it counts as empty\n",
-        b"; what was not read counts as missing",
-    );
-    let Some(mut file) = opened else {
+    let missing = b" is missing; it counts as empty\n";
+    let Some(mut file) = open(rt, err, path, missing, UNREAD) else {
         return end_file(rt, err, s, line, memory, out);
     };
-    let t = take_open(rt, err, &mut file, path, text, s, line, memory, out);
+    let taken = take_open(rt, err, &mut file, path, text, s, line, memory, out);
     drop(file);
-    if !t.ok {
-        return t;
-    }
-    end_file(rt, err, t.reader, line, memory, out)
+    end_file(rt, err, taken?, line, memory, out)
 }
 
 // Writes out what is left in the output buffer.
-fn flush(rt: &impl Print, err: &impl Print, s: Reader, out: &[u8]) -> Turn
+fn flush(rt: &impl Print, err: &impl Print, s: Reader, out: &[u8]) -> Result<Reader, Unwritten>
     requires { s.at ≤ length out.now }
-    ensures { result.reader ≡ s }
+    ensures { IfOk result (λ r. r ≡ s) }
 {
-    let at = s.at;
-    let told = write_out(rt, err, out, at, b"the sheet");
-    Turn {
-        ok: told.ok,
-        reader: s,
-    }
+    write_out(rt, err, out, s.at, b"the sheet")?;
+    Ok(s)
 }
 
 // Rehearses the run of one file on the crate of another, in lent buffers: text for what is read, line for a line's first bytes, memory for the crate, which
@@ -378,35 +269,26 @@ pub fn rehearse<R: fs::Files + Print>(
     line: &mut [u8],
     memory: &mut [u32],
     out: &mut [u8],
-) -> Turn
+) -> Result<Reader, Unwritten>
     requires { (length line.old ≡ 81) × (8258 ≤ length out.old) × (memory.old ≡ empty_crate) }
-    ensures { result.ok ≡ true → Handed (take result.reader.at out.new) }
+    ensures { IfOk result (λ r. Handed (take r.at out.new)) }
 {
     let start = Reader {
         fill: 0,
         number: 0,
-        phase: 0,
+        phase: Phase::CrateFile,
         previous: 0,
         at: 0,
     };
-    let built = take_file(rt, err, crate_path, text, start, line, memory, out);
-    if !built.ok {
-        return built;
-    }
-    let c = built.reader;
-    if c.phase >= 2 {
-        return flush(rt, err, c, out);
+    let built = take_file(rt, err, crate_path, text, start, line, memory, out)?;
+    if built.phase == Phase::Ended {
+        return flush(rt, err, built, out);
     }
     let second = Reader {
-        fill: 0,
-        number: 0,
-        phase: 1,
-        previous: 0,
-        at: c.at,
+        phase: Phase::RunFile,
+        at: built.at,
+        ..start
     };
-    let ran = take_file(rt, err, run_path, text, second, line, memory, out);
-    if !ran.ok {
-        return ran;
-    }
-    flush(rt, err, ran.reader, out)
+    let ran = take_file(rt, err, run_path, text, second, line, memory, out)?;
+    flush(rt, err, ran, out)
 }

@@ -12,17 +12,15 @@ const ROOM: usize = 256;
 struct Words {
     bytes: [u8; ROOM],
     end: usize,
+    ghost end_within: { end ≤ 256 },
 }
 
 impl fmt::Write for Words {
     fn write_str(&mut self, s: &str) -> fmt::Result {
-        for b in s.as_bytes() {
-            let end = self.end;
-            if end < ROOM {
-                self.bytes[end] = *b;
-                self.end = end + 1;
-            }
-        }
+        let n = s.len().min(ROOM - self.end);
+        let end = self.end + n;
+        self.bytes[self.end..end].copy_from_slice(&s.as_bytes()[..n]);
+        self.end = end;
         Ok(())
     }
 }
@@ -31,12 +29,9 @@ impl fmt::Write for Words {
 fn words_end(words: &[u8]) -> usize
     ensures { result ≤ length words.now }
 {
-    for i in 0..words.len() {
-        if words[i..].starts_with(b" (os error ") {
-            return i;
-        }
-    }
-    words.len()
+    (0..words.len())
+        .find(|i| words[*i..].starts_with(b" (os error "))
+        .unwrap_or(words.len())
 }
 
 // Says what comes of an error, and why it came.
@@ -46,8 +41,7 @@ pub fn say_reason(err: &impl Print, so: &[u8], why: &io::Error) {
         end: 0,
     };
     let _ = write!(words, "{why}");
-    let all = if words.end < ROOM { words.end } else { ROOM };
-    let text = &words.bytes[..all];
+    let text = &words.bytes[..words.end];
     let end = words_end(text);
     crate::say(err, so, b": ");
     crate::say(err, &text[..end], b"\n");

@@ -1,12 +1,11 @@
 -- What the span of a station's subaddresses gives a transfer: below r where it has A, not accepted where it has not; and it stays that of the station, since no step
 -- changes the module.
 -- Assumes nothing.
-use Prim.Native.Nat.{ℕ, ◌≤◌, ◌<◌}
+use Prim.Native.Nat.{ℕ, ◌<◌}
 use mathlib.Core.Path.{◌≡◌, sym, ◌∙◌}
 use mathlib.Core.Bool.{true, false}
 use mathlib.Core.Logic.{⊎_elim}
 use mathlib.Core.List.{List}
-use native.Mathlib.Omega.{arith}
 use Rattle.acceptance.specs.declared.Span.{Span}
 use Rattle.acceptance.specs.Classes.{class_of, admits, is_in}
 use Rattle.station.specs.Block.{kind_of, count_of, sources_of, FitBlock}
@@ -32,11 +31,3 @@ module _ (b : List ℕ) (fit : FitBlock b) (f : ℕ) (t : Span) (h : Accepts b f
 pub accepts-same : (b c : List ℕ) (f : ℕ) (t : Span) → SameModule b c → Accepts b f t → Accepts c f t
 unfolding sources_of
 accepts-same b c f t k h a = rw (k.kind, k.count) (h a)
-
--- a function of a transfer is one of the 32
-pub read-few : (f : ℕ) → ReadFunction f → f ≤ 31
-read-few f k = ⊎_elim (λ p. omega arith) (⊎_elim (λ p. omega arith) (λ p. omega arith)) k
-
--- and is F3 where it is neither F0 nor F2
-pub read-last : (f : ℕ) → ReadFunction f → (f ≡ 0 → ⊥) → (f ≡ 2 → ⊥) → f ≡ 3
-read-last f k x y = ⊎_elim (λ p. absurd (x p)) (⊎_elim (λ p. absurd (y p)) (λ p. p)) k

@@ -9,7 +9,7 @@ use native.Mathlib.Omega.{arith}
 use borrow.Author.Tests.{ltb-true, lt-ltb, le-ltb, eqb-true, eqb-false, ne_eqb}
 use lib.Dec.{ltb, eqb}
 use Rattle.kinds.specs.Cases.{every, is_one_of, Case, case_of}
-use Rattle.kinds.specs.Table.{least_of, most_of, sources_with, in_table}
+use Rattle.kinds.specs.Table.{least_of, sources_with, in_table}
 use Rattle.kinds.specs.declared.Module.{Module}
 use Rattle.kinds.proofs.TestLaws.{both_false, by_cases, every-at, one-of-only, EachCase}
 use Rattle.acceptance.specs.Classes.{class_number, with_sources, class_of, admits}
@@ -37,10 +37,6 @@ case-each P k (c ∷ cs) o h g =
     by_cases P (eqb k c.code) c.outcome (case_of k cs o)
     (λ e. h.0 (eqb-true _ _ e))
     (λ e. case-each P k cs o h.1 (λ n. g (eqb-false _ _ e, n)))
-
--- ---- of a buffer memory r is 1, so that below r is A0
-pub buffer-first : (b : List ℕ) (a : ℕ) → FitBlock b → kind_of b ≡ 4 → a < count_of b → a ≡ 0
-buffer-first b a fit k l = let m : count_of b ≤ most_of 4 = (rw k at fit.most) in omega arith
 
 -- ---- the classes of a family of functions, by the kind
 -- of the kinds of a list this class, else none

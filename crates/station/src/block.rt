@@ -1,5 +1,5 @@
 // The words of a station's block, and what several functions need of it: the sources, a status bit set, the registers zeroed.
-ghost use Rattle.std.specs.Prelude.{◌≡◌, length, replicate, ◌<◌};
+ghost use Rattle.std.specs.Prelude.{◌≡◌, length, ◌<◌};
 ghost use Rattle.station.specs.Block.{sources_of, set_status_bit, zeroed_of};
 
 use word24::word::with_bit;
@@ -26,6 +26,7 @@ pub const SPARE: usize = 8;
 pub const REGISTERS: usize = 16;
 
 // How many LAM sources the module has.
+#[tactic(auto, unfolding(crate::specs::Block::sources_of))]
 pub fn sources(b: &[u32]) -> u32
     requires { length b.now ≡ 32 }
     ensures { result ≡ sources_of b.now }
@@ -35,23 +36,11 @@ pub fn sources(b: &[u32]) -> u32
 
 // Sets status bit a.
 pub fn set_status_bit(b: &mut [u32], a: u32)
-    requires fact_1 { length b.old ≡ 32 }
-    requires fact_2 { a < 32 }
+    requires block_len { length b.old ≡ 32 }
+    requires a_bound { a < 32 }
     ensures { b.new ≡ set_status_bit b.old a }
 {
-    let status = b[STATUS];
-    b[STATUS] = with_bit(status, a);
-}
-
-// Zeroes every word of a slice.
-pub fn zero(s: &mut [u32])
-    ensures { s.new ≡ replicate (length s.old) 0 }
-{
-    let mut i = 0;
-    while i < s.len() {
-        s[i] = 0;
-        i += 1;
-    }
+    b[STATUS] = with_bit(b[STATUS], a);
 }
 
 // Gives the module this status and mask, and zeroes its head, its fill and all its registers.
@@ -63,5 +52,5 @@ pub fn zero_module(b: &mut [u32], status: u32, mask: u32)
     b[MASK] = mask;
     b[HEAD] = 0;
     b[FILL] = 0;
-    zero(&mut b[REGISTERS..]);
+    b[REGISTERS..].fill(0);
 }

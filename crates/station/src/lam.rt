@@ -11,9 +11,9 @@ use word24::word::{bit, with_bit, without_bit};
 
 // Q is bit a of v.
 fn test(b: &[u32], a: u32, v: u32) -> Reply
-    requires fact_1 { FitBlock b.now }
-    requires fact_2 { a < 16 }
-    requires fact_3 { a < sources_of b.now }
+    requires fit_block { FitBlock b.now }
+    requires a_bound { a < 16 }
+    requires below_s { a < sources_of b.now }
     ensures { lam b.now a (tells b.now (bit_of a v)) ≡ record { block = b.now; reply = result } }
 {
     Reply {
@@ -24,57 +24,59 @@ fn test(b: &[u32], a: u32, v: u32) -> Reply
 }
 
 // F8.
+#[tactic(auto, unfolding(crate::specs::Lam::test_lam_of))]
 pub fn test_lam(b: &[u32], a: u32) -> Reply
-    requires fact_1 { FitBlock b.now }
-    requires fact_2 { a < 16 }
-    requires fact_3 { a < sources_of b.now }
+    requires fit_block { FitBlock b.now }
+    requires a_bound { a < 16 }
+    requires below_s { a < sources_of b.now }
     ensures { test_lam_of b.now a ≡ record { block = b.now; reply = result } }
 {
     test(b, a, b[STATUS] & b[MASK])
 }
 
 // F27.
+#[tactic(auto, unfolding(crate::specs::Lam::test_status_of))]
 pub fn test_status(b: &[u32], a: u32) -> Reply
-    requires fact_1 { FitBlock b.now }
-    requires fact_2 { a < 16 }
-    requires fact_3 { a < sources_of b.now }
+    requires fit_block { FitBlock b.now }
+    requires a_bound { a < 16 }
+    requires below_s { a < sources_of b.now }
     ensures { test_status_of b.now a ≡ record { block = b.now; reply = result } }
 {
     test(b, a, b[STATUS])
 }
 
 // F10.
+#[tactic(auto, unfolding(crate::specs::Lam::clear_lam_of))]
 pub fn clear_lam(b: &mut [u32], a: u32) -> Reply
-    requires fact_1 { FitBlock b.old }
-    requires fact_2 { a < 16 }
-    requires fact_3 { a < sources_of b.old }
+    requires fit_block { FitBlock b.old }
+    requires a_bound { a < 16 }
+    requires below_s { a < sources_of b.old }
     ensures { clear_lam_of b.old a ≡ record { block = b.new; reply = result } }
 {
-    let status = b[STATUS];
-    b[STATUS] = without_bit(status, a);
+    b[STATUS] = without_bit(b[STATUS], a);
     DONE
 }
 
 // F24.
+#[tactic(auto, unfolding(crate::specs::Lam::disable_of))]
 pub fn disable(b: &mut [u32], a: u32) -> Reply
-    requires fact_1 { FitBlock b.old }
-    requires fact_2 { a < 16 }
-    requires fact_3 { a < sources_of b.old }
+    requires fit_block { FitBlock b.old }
+    requires a_bound { a < 16 }
+    requires below_s { a < sources_of b.old }
     ensures { disable_of b.old a ≡ record { block = b.new; reply = result } }
 {
-    let mask = b[MASK];
-    b[MASK] = without_bit(mask, a);
+    b[MASK] = without_bit(b[MASK], a);
     DONE
 }
 
 // F26.
+#[tactic(auto, unfolding(crate::specs::Lam::enable_of))]
 pub fn enable(b: &mut [u32], a: u32) -> Reply
-    requires fact_1 { FitBlock b.old }
-    requires fact_2 { a < 16 }
-    requires fact_3 { a < sources_of b.old }
+    requires fit_block { FitBlock b.old }
+    requires a_bound { a < 16 }
+    requires below_s { a < sources_of b.old }
     ensures { enable_of b.old a ≡ record { block = b.new; reply = result } }
 {
-    let mask = b[MASK];
-    b[MASK] = with_bit(mask, a);
+    b[MASK] = with_bit(b[MASK], a);
     DONE
 }

@@ -18,7 +18,7 @@ use acceptance::{Span, class_of, has, span_of};
 use block::{COUNT, KIND, sources};
 use group1::{read, read_and_clear, read_complement};
 
-// The answer to a command: Command Accepted, Response and read word.
+// The answer to a command: Command Accepted, Response and read word. X and Q are the bits 0 and 1, and no bool: they are printed, and joined bit by bit.
 #[derive(Clone, Copy)]
 pub struct Reply {
     pub x: u32,
@@ -32,10 +32,17 @@ pub const NOT_ACCEPTED: Reply = Reply { x: 0, q: 0, r: 0 };
 // Accepted, with nothing to read.
 pub const DONE: Reply = Reply { x: 1, q: 1, r: 0 };
 
+// Accepted, with the word r read.
+fn gives(r: u32) -> Reply
+    ensures { result ≡ record { x = 1; q = 1; r = r } }
+{
+    Reply { r, ..DONE }
+}
+
 // The subaddresses at which the station accepts function f: those of the class of its kind. No other function decides it.
 pub fn accepted(b: &[u32], f: u32) -> Span
-    requires fact_1 { FitBlock b.now }
-    requires fact_2 { f < 32 }
+    requires fit_block { FitBlock b.now }
+    requires f_bound { f < 32 }
     ensures { Accepts b.now f result }
 {
     let class = class_of(b[KIND], f);
@@ -44,19 +51,20 @@ pub fn accepted(b: &[u32], f: u32) -> Span
 
 // Whether the station accepts a command.
 fn accepts(b: &[u32], a: u32, f: u32) -> bool
-    requires fact_1 { FitBlock b.now }
-    requires fact_2 { f < 32 }
+    requires fit_block { FitBlock b.now }
+    requires f_bound { f < 32 }
     ensures { result ≡ admits (class_of (kind_of b.now) f) a (count_of b.now) (sources_of b.now) }
 {
     has(accepted(b, f), a)
 }
 
 // One command to the station: subaddress a, function f, write word w.
+#[tactic(auto, unfolding(crate::specs::Command::command_of, crate::specs::Command::functions_of))]
 pub fn command(b: &mut [u32], a: u32, f: u32, w: u32) -> Reply
-    requires fact_1 { FitBlock b.old }
-    requires fact_2 { a < 16 }
-    requires fact_3 { f < 32 }
-    requires fact_4 { w < 2 ^ 24 }
+    requires fit_block { FitBlock b.old }
+    requires a_bound { a < 16 }
+    requires f_bound { f < 32 }
+    requires w_bound { w < 2 ^ 24 }
     ensures { command_of b.old a f w ≡ record { block = b.new; reply = result } }
 {
     if !accepts(b, a, f) {
@@ -81,17 +89,17 @@ pub fn command(b: &mut [u32], a: u32, f: u32, w: u32) -> Reply
         25 => group1::execute(b, a),
         26 => lam::enable(b, a),
         27 => lam::test_status(b, a),
-        4..=7 | 12..=15 | 20 | 22 | 28..=31 => NOT_ACCEPTED,
-        _ => NOT_ACCEPTED,
+        4..=7 | 12..=15 | 20 | 22 | 28.. => NOT_ACCEPTED,
     }
 }
 
 // One cycle of a block transfer: a command with no word to write, at a station that was asked before which subaddresses it accepts.
+#[tactic(auto, unfolding(crate::specs::Command::command_of, crate::specs::Command::functions_of))]
 pub fn cycle(b: &mut [u32], span: Span, a: u32, f: u32) -> Reply
-    requires fact_1 { FitBlock b.old }
-    requires fact_2 { Accepts b.old f span }
-    requires fact_3 { a < 16 }
-    requires fact_4 { ReadFunction f }
+    requires fit_block { FitBlock b.old }
+    requires accepts_at { Accepts b.old f span }
+    requires a_bound { a < 16 }
+    requires read_function { ReadFunction f }
     ensures { command_of b.old a f 0 ≡ record { block = b.new; reply = result } }
 {
     if !has(span, a) {

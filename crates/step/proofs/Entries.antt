@@ -12,12 +12,12 @@ use Rattle.step.specs.declared.Refusal.{Refusal}
 use Rattle.step.specs.declared.Refusal.TheVariants.{NoSuchStation, NoSuchSubaddress, NoSuchFunction, CrossedRange, BadLength, LongTransfer}
 use Rattle.step.specs.declared.Short.{Short}
 use Rattle.step.specs.declared.Short.TheVariants.{ShortScan, ShortRepeat, ShortStop}
-use Rattle.step.specs.declared.Verdict.{Verdict}
-use Rattle.step.specs.declared.Verdict.TheVariants.{Fine, Refuse}
 use Rattle.step.specs.Verdict.{within, unless, is_fine, transfer, lent_then, tries_then, limit_then, long_then, scan_verdict, repeat_verdict, stop_verdict}
 use Rattle.step.specs.Verdict.{short_scan_verdict, short_repeat_verdict, short_stop_verdict, short_verdict, step_verdict}
 use Rattle.step.specs.Entries.{general_of, limit_of, head_of}
 use Rattle.step.proofs.Fine.{unless-fine}
+use Rattle.std.specs.Prelude.{Ok, Err}
+use Rattle.step.specs.Results.{Verdict}
 
 -- ---- both verdicts are rows before limit's, that row, at the processor's entry one more, and what is behind
 data Rows : Type 0 where
@@ -38,9 +38,9 @@ before (ShortRepeat n a f limit tries) = addressed n a f none
 before (ShortStop n a f limit) = addressed n a f none
 
 abbrev behind : Short → ℕ → Verdict
-behind (ShortScan n a f to limit) lent = lent_then limit lent Fine
-behind (ShortRepeat n a f limit tries) lent = tries_then tries (lent_then limit lent Fine)
-behind (ShortStop n a f limit) lent = lent_then limit lent Fine
+behind (ShortScan n a f to limit) lent = lent_then limit lent (Ok tt)
+behind (ShortRepeat n a f limit tries) lent = tries_then tries (lent_then limit lent (Ok tt))
+behind (ShortStop n a f limit) lent = lent_then limit lent (Ok tt)
 
 general-rows : (t : Short) (b : List ℕ) → step_verdict (general_of t) b ≡ rows_then (before t) (limit_then (limit_of t) (behind t (length b)))
 unfolding scan_verdict repeat_verdict stop_verdict
@@ -54,18 +54,18 @@ short-rows (ShortScan n a f to limit) lent = refl
 short-rows (ShortRepeat n a f limit tries) lent = refl
 short-rows (ShortStop n a f limit) lent = refl
 
-head_rows : (t : Short) → head_of t ≡ rows_then (before t) Fine
+head_rows : (t : Short) → head_of t ≡ rows_then (before t) (Ok tt)
 head_rows (ShortScan n a f to limit) = refl
 head_rows (ShortRepeat n a f limit tries) = refl
 head_rows (ShortStop n a f limit) = refl
 
 -- rows that are passed, rows that are not, and what is behind rows that are fine
-passed : (l : Rows) (v : Verdict) → is_fine (rows_then l Fine) ≡ true → rows_then l v ≡ v
+passed : (l : Rows) (v : Verdict) → is_fine (rows_then l (Ok tt)) ≡ true → rows_then l v ≡ v
 passed none v e = refl
 passed (row true q l) v e = passed l v e
 passed (row false q l) v e = absurd (false≢true e)
 
-stopped : (l : Rows) (v : Verdict) (q : Refusal) → rows_then l Fine ≡ Refuse q → rows_then l v ≡ Refuse q
+stopped : (l : Rows) (v : Verdict) (q : Refusal) → rows_then l (Ok tt) ≡ Err q → rows_then l v ≡ Err q
 stopped none v q e = absurd (false≢true (sym (ap is_fine e)))
 stopped (row true p l) v q e = stopped l v q e
 stopped (row false p l) v q e = e
@@ -86,7 +86,7 @@ long-above limit v h = rw (go (leb 1 limit) (lt-leb limit 512 h))
     go true e = e
     go false e = refl
 
-long-between : (limit : ℕ) (v : Verdict) → 32 < limit → limit ≤ 512 → limit_then limit (long_then limit v) ≡ Refuse LongTransfer
+long-between : (limit : ℕ) (v : Verdict) → 32 < limit → limit ≤ 512 → limit_then limit (long_then limit v) ≡ Err LongTransfer
 long-between limit v lo hi = rw (le-leb 1 limit (omega (arith, lo)), le-leb limit 512 hi, lt-leb limit 32 lo)
 
 -- ---- up to 32 the two entries judge alike, and so they do above 512
@@ -102,13 +102,13 @@ module _ (t : Short) (b : List ℕ) where
   judged-above h = from-limit (long-above (limit_of t) (behind t (length b)) h)
 
   -- a field before limit that is refused is refused at both, with the same number
-  pub judged-head : (q : Refusal) → head_of t ≡ Refuse q → (short_verdict t (length b) ≡ Refuse q) × (step_verdict (general_of t) b ≡ Refuse q)
+  pub judged-head : (q : Refusal) → head_of t ≡ Err q → (short_verdict t (length b) ≡ Err q) × (step_verdict (general_of t) b ≡ Err q)
   judged-head q e =
       let h = sym (head_rows t) ∙ e in
       (short-rows t (length b) ∙ stopped (before t) _ q h, general-rows t b ∙ stopped (before t) _ q h)
 
 -- ---- between them 13, where no field before limit is refused
-pub judged-long : (t : Short) (lent : ℕ) → is_fine (head_of t) ≡ true → 32 < limit_of t → limit_of t ≤ 512 → short_verdict t lent ≡ Refuse LongTransfer
+pub judged-long : (t : Short) (lent : ℕ) → is_fine (head_of t) ≡ true → 32 < limit_of t → limit_of t ≤ 512 → short_verdict t lent ≡ Err LongTransfer
 judged-long t lent e lo hi =
     short-rows t lent
     ∙ passed (before t) _ (ap is_fine (sym (head_rows t)) ∙ e)

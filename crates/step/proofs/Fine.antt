@@ -11,13 +11,13 @@ use lib.ListN.{length, take, get_or}
 use Rattle.kinds.proofs.TestLaws.{one_of_three}
 use Rattle.step.specs.declared.Refusal.{Refusal}
 use Rattle.step.specs.declared.Refusal.TheVariants.{NoSuchStation, NoSuchSubaddress, NoSuchFunction, OverwideWord, CrossedRange, BadLength, ShortBuffer, CrossedWindow}
-use Rattle.step.specs.declared.Verdict.{Verdict}
-use Rattle.step.specs.declared.Verdict.TheVariants.{Fine}
 use Rattle.step.specs.Verdict.{within, unless, is_fine, transfer, station_then, subaddress_then, transfer_then}
 use Rattle.step.specs.Verdict.{command_verdict, front_verdict, inhibit_verdict, scan_verdict, repeat_verdict, stop_verdict}
 use Rattle.step.specs.Verdict.{are_narrow, put_verdict, put_lent_verdict}
 use Rattle.step.specs.Verdict.{places_of, window_then, within_verdict}
 use Rattle.step.specs.Verdict.{command_station, command_station_then, widest_of}
+use Rattle.std.specs.Prelude.{Ok}
+use Rattle.step.specs.Results.{Verdict}
 
 -- the test was passed, and what follows it is fine
 pub unless-fine : (t : Bool) (q : Refusal) (v : Verdict) → is_fine (unless t q v) ≡ true → (t ≡ true) × (is_fine v ≡ true)
@@ -92,7 +92,7 @@ unfolding command_verdict
 command-fine n a f w e =
     let p = command-address n a _ e in
     let q = most-fine f 31 NoSuchFunction _ p.2 in
-    let r = most-fine w (widest_of n a f) OverwideWord Fine q.1 in
+    let r = most-fine w (widest_of n a f) OverwideWord (Ok tt) q.1 in
     (station-low n p.0, p.1, q.0, omega (arith, r.0, widest-most n a f), λ x y z. omega (arith, r.0, widest-register n a f x y z))
 
 -- the fields of a front event
@@ -100,13 +100,13 @@ pub front-fine : (n a v : ℕ) → is_fine (front_verdict n a v) ≡ true → (1
 unfolding front_verdict
 front-fine n a v e =
     let p = address-fine n a _ e in
-    let q = most-fine v 16777215 OverwideWord Fine p.3 in
+    let q = most-fine v 16777215 OverwideWord (Ok tt) p.3 in
     (p.0, p.1, p.2, q.0)
 
 -- the field of I
 pub inhibit-fine : (v : ℕ) → is_fine (inhibit_verdict v) ≡ true → v ≤ 1
 unfolding inhibit_verdict
-inhibit-fine v e = (most-fine v 1 OverwideWord Fine e).0
+inhibit-fine v e = (most-fine v 1 OverwideWord (Ok tt) e).0
 
 -- the fields of a scan, and its buffer
 pub scan-fields : (n a f to limit lent : ℕ) → is_fine (scan_verdict n a f to limit lent) ≡ true
@@ -116,7 +116,7 @@ scan-fields n a f to limit lent e =
     let p = transfer-fine n a f _ e in
     let q = within-fine n to 23 CrossedRange _ p.4 in
     let r = within-fine 1 limit 512 BadLength _ q.2 in
-    let s = most-fine limit lent ShortBuffer Fine r.2 in
+    let s = most-fine limit lent ShortBuffer (Ok tt) r.2 in
     (p.0, p.1, p.2, p.3, q.0, q.1, r.0, r.1, s.0)
 
 -- of these, what keeps its walk inside the crate
@@ -131,7 +131,7 @@ repeat-fields n a f limit tries lent e =
     let p = transfer-fine n a f _ e in
     let q = within-fine 1 limit 512 BadLength _ p.4 in
     let r = within-fine 1 tries 4096 BadLength _ q.2 in
-    let s = most-fine limit lent ShortBuffer Fine r.2 in
+    let s = most-fine limit lent ShortBuffer (Ok tt) r.2 in
     (p.0, p.1, p.2, p.3, q.0, q.1, r.0, r.1, s.0)
 
 -- of these, where its commands go
@@ -145,7 +145,7 @@ unfolding stop_verdict
 stop-fields n a f limit lent e =
     let p = transfer-fine n a f _ e in
     let q = within-fine 1 limit 512 BadLength _ p.4 in
-    let r = most-fine limit lent ShortBuffer Fine q.2 in
+    let r = most-fine limit lent ShortBuffer (Ok tt) q.2 in
     (p.0, p.1, p.2, p.3, q.0, q.1, r.0)
 
 -- of these, where its commands go
@@ -167,7 +167,7 @@ put-fields n a to limit w e =
     let p = address-fine n a _ e in
     let q = within-fine n to 23 CrossedRange _ p.3 in
     let r = within-fine 1 limit 512 BadLength _ q.2 in
-    let s = most-fine w 16777215 OverwideWord Fine r.2 in
+    let s = most-fine w 16777215 OverwideWord (Ok tt) r.2 in
     (p.0, p.1, p.2, q.0, q.1, r.0, r.1, s.0)
 
 -- the fields of a put of lent words, and those words
@@ -179,7 +179,7 @@ put-lent-fields n a to limit b e =
     let q = within-fine n to 23 CrossedRange _ p.3 in
     let r = within-fine 1 limit 512 BadLength _ q.2 in
     let s = most-fine limit (length b) ShortBuffer _ r.2 in
-    let t = unless-fine (are_narrow (take limit b)) OverwideWord Fine s.1 in
+    let t = unless-fine (are_narrow (take limit b)) OverwideWord (Ok tt) s.1 in
     (p.0, p.1, p.2, q.0, q.1, r.0, r.1, s.0, t.0)
 
 -- ---- windows
@@ -199,5 +199,5 @@ within-fields n to lo hi lent e =
     let p = within-fine 1 n 23 NoSuchStation _ e in
     let q = within-fine n to 23 CrossedRange _ p.2 in
     let r = window-fine lo hi _ q.2 in
-    let s = most-fine (places_of n to) lent ShortBuffer Fine r.3 in
+    let s = most-fine (places_of n to) lent ShortBuffer (Ok tt) r.3 in
     (p.0, p.1, q.0, q.1, r.2, r.1, s.0)

@@ -10,9 +10,9 @@ use Rattle.step.specs.declared.Refusal.{Refusal}
 use Rattle.step.specs.declared.Refusal.TheVariants.{NoSuchStation, NoSuchSubaddress, CrossedRange, BadLength, ShortBuffer}
 use Rattle.step.specs.declared.Step.{Step}
 use Rattle.step.specs.declared.Step.TheVariants.{Command, Front, Z, C, Inhibit, LookAtMe, Scan, Repeat, Stop, Put, PutLent, Processor, Within}
-use Rattle.step.specs.declared.Verdict.{Verdict}
-use Rattle.step.specs.declared.Verdict.TheVariants.{Fine, Refuse}
 use Rattle.step.specs.Verdict.{within, unless, is_fine, are_narrow, lent_then, offered_then, scan_verdict, repeat_verdict, stop_verdict, put_lent_verdict, short_verdict, within_verdict, step_verdict}
+use Rattle.std.specs.Prelude.{Ok, Err}
+use Rattle.step.specs.Results.{Verdict}
 
 -- ---- a put of lent words
 zeros-narrow : (limit k : ℕ) → are_narrow (take limit (replicate k 0)) ≡ true
@@ -22,21 +22,21 @@ zeros-narrow (suc limit) (suc k) = zeros-narrow limit k
 
 -- the verdict v refuses no more than w: where v refuses, w does so with the same number
 abbrev pub Milder : Verdict → Verdict → Type 0
-Milder v w = ((q : Refusal) → v ≡ Refuse q → w ≡ Refuse q) × (is_fine w ≡ true → is_fine v ≡ true)
+Milder v w = ((q : Refusal) → v ≡ Err q → w ≡ Err q) × (is_fine w ≡ true → is_fine v ≡ true)
 
 milder-same : (v w : Verdict) → v ≡ w → Milder v w
 milder-same v w e = ((λ q h. sym e ∙ h), λ h. ap is_fine e ∙ h)
 
-milder-fine : (w : Verdict) → Milder Fine w
+milder-fine : (w : Verdict) → Milder (Ok tt) w
 milder-fine w = ((λ q h. absurd (false≢true (sym (ap is_fine h)))), λ h. refl)
 
 milder-unless : (t : Bool) (q : Refusal) (v w : Verdict) → Milder v w → Milder (unless t q v) (unless t q w)
 milder-unless true q v w h = h
-milder-unless false q v w h = milder-same (Refuse q) (Refuse q) refl
+milder-unless false q v w h = milder-same (Err q) (Err q) refl
 
 -- what stands behind the limit of a put of lent words: the length of its buffer, then the words
 abbrev buffer_verdict : ℕ → List ℕ → Verdict
-buffer_verdict limit b = lent_then limit (length b) (offered_then (take limit b) Fine)
+buffer_verdict limit b = lent_then limit (length b) (offered_then (take limit b) (Ok tt))
 
 -- zeros of the same length are judged best
 pub judged-zeros : (s : Step) (b : List ℕ) (k : ℕ) → length b ≡ k → Milder (step_verdict s (replicate k 0)) (step_verdict s b)
@@ -60,7 +60,7 @@ judged-zeros (PutLent n a to limit) b k e =
     last : Milder (buffer_verdict limit (replicate k 0)) (buffer_verdict limit b)
     last =
         rw (length-replicate {A = ℕ} k 0, e, zeros-narrow limit k)
-        (milder-unless (leb limit k) ShortBuffer Fine (offered_then (take limit b) Fine) (milder-fine (offered_then (take limit b) Fine)))
+        (milder-unless (leb limit k) ShortBuffer (Ok tt) (offered_then (take limit b) (Ok tt)) (milder-fine (offered_then (take limit b) (Ok tt))))
 
 -- ---- words of 24 bits
 pub narrow-take : (k : ℕ) (b : List ℕ) → are_narrow b ≡ true → are_narrow (take k b) ≡ true

@@ -8,10 +8,10 @@ use lib.Dec.{leb, ltb, eqb}
 use Rattle.kinds.specs.Table.{in_table, FitModule}
 use Rattle.kinds.specs.declared.Module.{Module}
 use Rattle.step.specs.declared.Refusal.TheVariants.{NoSuchStation, BadModule, OutOfOrder, CoveredStation}
-use Rattle.step.specs.declared.Verdict.TheVariants.{Fine}
 use Rattle.step.specs.Verdict.{within, is_fine}
 use Rattle.step.specs.Modules.{fits_kind, has_room, fits_module, module_verdict}
 use Rattle.step.proofs.Fine.{unless-fine, within-bounds}
+use Rattle.std.specs.Prelude.{Ok}
 
 -- a module two stations wide that has room stands below 23
 room-below : (p : Module) → has_room p ≡ true → p.wide ≡ 2 → p.n < 23
@@ -31,7 +31,7 @@ module _ (previous covered : ℕ) (p : Module) (fine : is_fine (module_verdict p
       let s = unless-fine (within 1 p.n 23) NoSuchStation _ fine in
       let o = unless-fine (ltb previous p.n) OutOfOrder _ s.1 in
       let c = unless-fine (eqb covered 0) CoveredStation _ o.1 in
-      let m = unless-fine (fits_module p) BadModule Fine c.1 in
+      let m = unless-fine (fits_module p) BadModule (Ok tt) c.1 in
       let f = (and-eq-true_iff (fits_kind p) (has_room p)).0 m.0 in
       let k = (and-eq-true_iff (leb 1 p.kind) (in_table p.kind p.r p.wide)).0 f.0 in
       (s.0, o.0, c.0, k.0, k.1, f.1)

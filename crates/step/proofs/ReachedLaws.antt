@@ -12,10 +12,6 @@ use Rattle.step.specs.declared.Step.{Step}
 use Rattle.step.specs.declared.Step.TheVariants.{Command, Front, Z, C, Inhibit, LookAtMe, Scan, Repeat, Stop, Put, PutLent, Processor, Within}
 use Rattle.step.specs.declared.Short.{Short}
 use Rattle.step.specs.declared.Short.TheVariants.{ShortScan, ShortRepeat, ShortStop}
-use Rattle.step.specs.declared.Reading.{Reading}
-use Rattle.step.specs.declared.Reading.TheVariants.{Good, Bad}
-use Rattle.step.specs.declared.Verdict.{Verdict}
-use Rattle.step.specs.declared.Verdict.TheVariants.{Fine, Refuse}
 use Rattle.step.specs.Verdict.{is_fine, step_verdict, verdict_of}
 use Rattle.step.specs.Touches.{reach, reach_of, touches_of}
 use Rattle.step.specs.Entries.{general_of}
@@ -23,6 +19,8 @@ use Rattle.step.specs.Reached.{Reached, TouchesExact}
 use Rattle.step.specs.Reached.Reached.{by-command, by_front, by-repeat, by-stop, by-many, by-scan, by-put, by-put-lent, by-processor, by-within, by-z, by-c, by-i, by-look}
 use Rattle.step.proofs.Fine.{within-bounds, command-fine, front-fine, scan-fields, repeat-fine, stop-fine, put-fields, put-lent-fields, within-fields}
 use Rattle.step.proofs.Entries.{short-fine}
+use Rattle.std.specs.Prelude.{Ok, Err}
+use Rattle.step.specs.Results.{Reading, Verdict}
 
 -- what the test finds is reached
 pub reach-only : (s : Step) (k : ℕ) → 1 ≤ k → k ≤ 23 → reach s k ≡ true → Reached s k
@@ -96,18 +94,18 @@ reaches-one (Processor t) b e = go t (short-fine t b e)
     go (ShortStop n a f limit) h = let h = stop-fine n a f limit (length b) h in (n, h.0, h.1, by-processor {t = ShortStop n a f limit} by-stop)
 reaches-one (Within n to lo hi) b e = let h = within-fields n to lo hi (length b) e in (n, h.0, h.1, by-within {n = n} {k = n} (omega arith) h.2)
 
-is-fine : (v : Verdict) → is_fine v ≡ true → v ≡ Fine
-is-fine Fine e = refl
-is-fine (Refuse q) e = absurd (false≢true e)
+is-fine : (v : Verdict) → is_fine v ≡ true → v ≡ Ok tt
+is-fine (Ok _) e = refl
+is-fine (Err q) e = absurd (false≢true e)
 
 pub touches-exact : TouchesExact
 touches-exact r b k lo hi = (only r, λ s e f h. all s e f (reach-all h))
   where
-    only : (r : Reading) → touches_of r b k ≡ true → (s : Step) × (r ≡ Good s) × (verdict_of r b ≡ Fine) × Reached s k
-    only (Good s) e =
-        let h = (and-eq-true_iff (is_fine (verdict_of (Good s) b)) (reach s k)).0 e in
-        (s, refl, is-fine (verdict_of (Good s) b) h.0, reach-only s k lo hi h.1)
-    only (Bad q) e = absurd (false≢true e)
+    only : (r : Reading) → touches_of r b k ≡ true → (s : Step) × (r ≡ Ok s) × (verdict_of r b ≡ Ok tt) × Reached s k
+    only (Ok s) e =
+        let h = (and-eq-true_iff (is_fine (verdict_of (Ok s) b)) (reach s k)).0 e in
+        (s, refl, is-fine (verdict_of (Ok s) b) h.0, reach-only s k lo hi h.1)
+    only (Err q) e = absurd (false≢true e)
 
-    all : (s : Step) → r ≡ Good s → verdict_of r b ≡ Fine → reach s k ≡ true → touches_of r b k ≡ true
+    all : (s : Step) → r ≡ Ok s → verdict_of r b ≡ Ok tt → reach s k ≡ true → touches_of r b k ≡ true
     all s e f h = ap (λ (v : Verdict). is_fine v && reach_of r k) f ∙ ap (λ (t : Reading). reach_of t k) e ∙ h

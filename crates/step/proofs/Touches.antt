@@ -5,17 +5,15 @@ use mathlib.Core.List.{List}
 use Prim.Native.Nat.{ℕ}
 use Rattle.step.specs.declared.Refusal.{Refusal}
 use Rattle.step.specs.declared.Step.{Step}
-use Rattle.step.specs.declared.Reading.{Reading}
-use Rattle.step.specs.declared.Reading.TheVariants.{Good}
-use Rattle.step.specs.declared.Verdict.{Verdict}
-use Rattle.step.specs.declared.Verdict.TheVariants.{Refuse}
 use Rattle.step.specs.Verdict.{is_fine, step_verdict, verdict_of}
 use Rattle.step.specs.Touches.{reach_of, touches, touches_of}
+use Rattle.std.specs.Prelude.{Ok, Err}
+use Rattle.step.specs.Results.{Reading, Verdict}
 
 -- a refused reading touches no station
-pub refused-none-of : (r : Reading) (b : List ℕ) (q : Refusal) → verdict_of r b ≡ Refuse q → (k : ℕ) → touches_of r b k ≡ false
+pub refused-none-of : (r : Reading) (b : List ℕ) (q : Refusal) → verdict_of r b ≡ Err q → (k : ℕ) → touches_of r b k ≡ false
 refused-none-of r b q e k = ap (λ (v : Verdict). is_fine v && reach_of r k) e
 
 -- a refused step touches no station
-pub refused_none : (s : Step) (b : List ℕ) (q : Refusal) → step_verdict s b ≡ Refuse q → (k : ℕ) → touches s b k ≡ false
-refused_none s b q e k = refused-none-of (Good s) b q e k
+pub refused_none : (s : Step) (b : List ℕ) (q : Refusal) → step_verdict s b ≡ Err q → (k : ℕ) → touches s b k ≡ false
+refused_none s b q e k = refused-none-of (Ok s) b q e k

@@ -1,4 +1,5 @@
 pub mod Modules
+pub mod Results
 pub mod Refusals
 pub mod Touches
 pub mod Entries

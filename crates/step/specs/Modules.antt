@@ -1,12 +1,11 @@
 -- When a crate line is refused (RULES 6.2, 6.10, 6.11, 6.19, 6.23): its station, then its order after the line before, then the cover of its station,
 -- then its kind, register count and width.
-use Rattle.std.specs.Prelude.{ℕ, Bool, ◌&&◌, ◌||◌, leb, ltb, eqb}
+use Rattle.std.specs.Prelude.{ℕ, Bool, ◌&&◌, ◌||◌, leb, ltb, eqb, Ok}
 use Rattle.kinds.specs.Table.{in_table}
 use Rattle.kinds.specs.declared.Module.{Module}
 use Rattle.step.specs.declared.Refusal.TheVariants.{BadModule, OutOfOrder, CoveredStation}
-use Rattle.step.specs.declared.Verdict.{Verdict}
-use Rattle.step.specs.declared.Verdict.TheVariants.{Fine}
 use Rattle.step.specs.Verdict.{unless, station_then}
+use Rattle.step.specs.Results.{Verdict}
 
 -- a kind of module (0 is an empty station), with r registers and a width as the table of kinds says
 abbrev pub fits_kind : Module → Bool
@@ -34,4 +33,4 @@ module_then p next = unless (fits_module p) BadModule next
 
 -- n= kind= r= wide=, after a line for the station `previous`, 0 where there was none, in a station whose word 7 is `covered`: 2, 11, 12, 10
 unfoldable pub module_verdict : (previous covered : ℕ) → Module → Verdict
-module_verdict previous covered p = station_then p.n (order_then previous p.n (covered_then covered (module_then p Fine)))
+module_verdict previous covered p = station_then p.n (order_then previous p.n (covered_then covered (module_then p (Ok tt))))

@@ -1,14 +1,12 @@
 -- Which stations a step touches, in plain words (RULES 5.2 to 5.5, 5.16); `Touches` tests it.
-use Rattle.std.specs.Prelude.{ℕ, ◌≤◌, ◌<◌, ◌≡◌, true, List}
+use Rattle.std.specs.Prelude.{ℕ, ◌≤◌, ◌<◌, ◌≡◌, true, List, Ok}
 use Rattle.step.specs.declared.Step.{Step}
 use Rattle.step.specs.declared.Step.TheVariants.{Command, Front, Z, C, Inhibit, LookAtMe, Scan, Repeat, Stop, Put, PutLent, Processor, Within}
 use Rattle.step.specs.declared.Short.{Short}
 use Rattle.step.specs.Entries.{general_of}
-use Rattle.step.specs.declared.Reading.{Reading}
-use Rattle.step.specs.declared.Reading.TheVariants.{Good}
-use Rattle.step.specs.declared.Verdict.TheVariants.{Fine}
 use Rattle.step.specs.Verdict.{verdict_of}
 use Rattle.step.specs.Touches.{touches_of}
+use Rattle.step.specs.Results.{Reading}
 
 -- Reached s k: step s, if it is not refused, touches station k
 pub data Reached : Step → ℕ → Type 0 where
@@ -37,5 +35,5 @@ pub data Reached : Step → ℕ → Type 0 where
 -- a reading touches station k exactly when it is a step that is not refused and reaches it
 abbrev pub TouchesExact : Type 0
 TouchesExact = (r : Reading) (b : List ℕ) (k : ℕ) → 1 ≤ k → k ≤ 23
-    → (touches_of r b k ≡ true → (s : Step) × (r ≡ Good s) × (verdict_of r b ≡ Fine) × Reached s k)
-    × ((s : Step) → r ≡ Good s → verdict_of r b ≡ Fine → Reached s k → touches_of r b k ≡ true)
+    → (touches_of r b k ≡ true → (s : Step) × (r ≡ Ok s) × (verdict_of r b ≡ Ok tt) × Reached s k)
+    × ((s : Step) → r ≡ Ok s → verdict_of r b ≡ Ok tt → Reached s k → touches_of r b k ≡ true)

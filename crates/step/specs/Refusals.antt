@@ -1,10 +1,9 @@
 -- What is sent back (RULES 6.1 to 6.11, 6.23): the number of each row of the table of refusals.
-use Rattle.std.specs.Prelude.{ℕ}
+use Rattle.std.specs.Prelude.{Ok, Err, ℕ}
 use Rattle.step.specs.declared.Refusal.{Refusal}
 use Rattle.step.specs.declared.Refusal.TheVariants.{Garbled, NoSuchStation, NoSuchSubaddress, NoSuchFunction, OverwideWord, CrossedRange, BadLength}
 use Rattle.step.specs.declared.Refusal.TheVariants.{ShortBuffer, UnfitCrate, BadModule, OutOfOrder, CoveredStation, LongTransfer, CrossedWindow}
-use Rattle.step.specs.declared.Verdict.{Verdict}
-use Rattle.step.specs.declared.Verdict.TheVariants.{Fine, Refuse}
+use Rattle.step.specs.Results.{Verdict}
 
 -- the paper's number of a refusal
 abbrev pub refusal_number : Refusal → ℕ
@@ -29,5 +28,5 @@ refusals = 14
 
 -- the number of a verdict: 0 where nothing is sent back
 abbrev pub verdict_number : Verdict → ℕ
-verdict_number Fine = 0
-verdict_number (Refuse q) = refusal_number q
+verdict_number (Ok _) = 0
+verdict_number (Err q) = refusal_number q

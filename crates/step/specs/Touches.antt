@@ -1,12 +1,11 @@
 -- Steps that touch stations (RULES 5.2 to 5.5, 5.16): which stations a step reaches by its fields, and which it touches, a refused step none.
-use Rattle.std.specs.Prelude.{ℕ, Bool, true, false, cond, ◌&&◌, List, leb, eqb}
+use Rattle.std.specs.Prelude.{ℕ, Bool, true, false, cond, ◌&&◌, List, leb, eqb, Ok, Err}
 use Rattle.step.specs.declared.Step.{Step}
 use Rattle.step.specs.declared.Step.TheVariants.{Command, Front, Z, C, Inhibit, LookAtMe, Scan, Repeat, Stop, Put, PutLent, Processor, Within}
 use Rattle.step.specs.declared.Short.{Short}
 use Rattle.step.specs.declared.Short.TheVariants.{ShortScan, ShortRepeat, ShortStop}
-use Rattle.step.specs.declared.Reading.{Reading}
-use Rattle.step.specs.declared.Reading.TheVariants.{Good, Bad}
 use Rattle.step.specs.Verdict.{within, is_fine, step_verdict, verdict_of}
+use Rattle.step.specs.Results.{Reading}
 
 -- the stations k of a transfer at the trigger processor's entry: those of the general entry's
 abbrev pub short_reach : Short → ℕ → Bool
@@ -33,8 +32,8 @@ reach (Within n to lo hi) k = within n k to
 
 -- the same of a reading: one that is no step reaches none
 abbrev pub reach_of : Reading → ℕ → Bool
-reach_of (Good s) k = reach s k
-reach_of (Bad q) k = false
+reach_of (Ok s) k = reach s k
+reach_of (Err q) k = false
 
 -- a step that is lent this buffer touches the station k: a refused step touches none
 abbrev pub touches : Step → List ℕ → ℕ → Bool

@@ -1,6 +1,6 @@
 -- When a step is refused (RULES 6.2 to 6.8, 6.13 to 6.18, 6.21, 6.22, 6.24 to 6.29): each row of the table of refusals is said once, as a test with what follows it.
 -- The verdict on a step is then the list of its fields from left to right, then the buffer: its length, and in a put of lent words the words.
-use Rattle.std.specs.Prelude.{ℕ, ◌+◌, ◌-◌, ◌*◌, Bool, true, false, cond, ◌&&◌, ◌||◌, List, [], ◌∷◌, length, take, leb, eqb}
+use Rattle.std.specs.Prelude.{ℕ, ◌+◌, ◌-◌, ◌*◌, Bool, true, false, cond, ◌&&◌, ◌||◌, List, [], ◌∷◌, length, take, leb, eqb, Ok, Err}
 use Rattle.kinds.specs.Cases.{is_one_of}
 use Rattle.step.specs.declared.Refusal.{Refusal}
 use Rattle.step.specs.declared.Refusal.TheVariants.{NoSuchStation, NoSuchSubaddress, NoSuchFunction, OverwideWord, CrossedRange, BadLength, ShortBuffer, LongTransfer, CrossedWindow}
@@ -8,10 +8,7 @@ use Rattle.step.specs.declared.Step.{Step}
 use Rattle.step.specs.declared.Step.TheVariants.{Command, Front, Z, C, Inhibit, LookAtMe, Scan, Repeat, Stop, Put, PutLent, Processor, Within}
 use Rattle.step.specs.declared.Short.{Short}
 use Rattle.step.specs.declared.Short.TheVariants.{ShortScan, ShortRepeat, ShortStop}
-use Rattle.step.specs.declared.Reading.{Reading}
-use Rattle.step.specs.declared.Reading.TheVariants.{Good, Bad}
-use Rattle.step.specs.declared.Verdict.{Verdict}
-use Rattle.step.specs.declared.Verdict.TheVariants.{Fine, Refuse}
+use Rattle.step.specs.Results.{Reading, Verdict}
 
 -- x is low to high, both included
 abbrev pub within : ℕ → ℕ → ℕ → Bool
@@ -20,12 +17,12 @@ within low x high = leb low x && leb x high
 -- what follows, unless the test fails
 abbrev pub unless : Bool → Refusal → Verdict → Verdict
 unless true q next = next
-unless false q next = Refuse q
+unless false q next = Err q
 
 -- no refusal
 abbrev pub is_fine : Verdict → Bool
-is_fine Fine = true
-is_fine (Refuse q) = false
+is_fine (Ok _) = true
+is_fine (Err q) = false
 
 -- 2, no such station: N outside 1 to 23
 abbrev pub station_then : ℕ → Verdict → Verdict
@@ -118,52 +115,52 @@ room_then n to lent next = unless (leb (places_of n to) lent) ShortBuffer next
 
 -- op=naf n= a= f= w=
 unfoldable pub command_verdict : ℕ → ℕ → ℕ → ℕ → Verdict
-command_verdict n a f w = command_station_then n (subaddress_then a (function_then f (command_word_then n a f w Fine)))
+command_verdict n a f w = command_station_then n (subaddress_then a (function_then f (command_word_then n a f w (Ok tt))))
 
 -- op=front n= a= v=
 unfoldable pub front_verdict : ℕ → ℕ → ℕ → Verdict
-front_verdict n a v = station_then n (subaddress_then a (word_then v Fine))
+front_verdict n a v = station_then n (subaddress_then a (word_then v (Ok tt)))
 
 -- op=i v=
 unfoldable pub inhibit_verdict : ℕ → Verdict
-inhibit_verdict v = inhibit_then v Fine
+inhibit_verdict v = inhibit_then v (Ok tt)
 
 -- op=scan n= a= f= to= limit=, with so many words lent
 unfoldable pub scan_verdict : ℕ → ℕ → ℕ → ℕ → ℕ → ℕ → Verdict
 scan_verdict n a f to limit lent =
-    station_then n (subaddress_then a (transfer_then f (range_then n to (limit_then limit (lent_then limit lent Fine)))))
+    station_then n (subaddress_then a (transfer_then f (range_then n to (limit_then limit (lent_then limit lent (Ok tt))))))
 
 -- op=repeat n= a= f= limit= tries=, with so many words lent
 unfoldable pub repeat_verdict : ℕ → ℕ → ℕ → ℕ → ℕ → ℕ → Verdict
 repeat_verdict n a f limit tries lent =
-    station_then n (subaddress_then a (transfer_then f (limit_then limit (tries_then tries (lent_then limit lent Fine)))))
+    station_then n (subaddress_then a (transfer_then f (limit_then limit (tries_then tries (lent_then limit lent (Ok tt))))))
 
 -- op=stop n= a= f= limit=, with so many words lent
 unfoldable pub stop_verdict : ℕ → ℕ → ℕ → ℕ → ℕ → Verdict
 stop_verdict n a f limit lent =
-    station_then n (subaddress_then a (transfer_then f (limit_then limit (lent_then limit lent Fine))))
+    station_then n (subaddress_then a (transfer_then f (limit_then limit (lent_then limit lent (Ok tt)))))
 
 -- op=put n= a= to= limit= w=
 unfoldable pub put_verdict : ℕ → ℕ → ℕ → ℕ → ℕ → Verdict
-put_verdict n a to limit w = station_then n (subaddress_then a (range_then n to (limit_then limit (word_then w Fine))))
+put_verdict n a to limit w = station_then n (subaddress_then a (range_then n to (limit_then limit (word_then w (Ok tt)))))
 
 -- a put of lent words, of which the first `limit` are offered: the one step with something after 8
 unfoldable pub put_lent_verdict : ℕ → ℕ → ℕ → ℕ → List ℕ → Verdict
 put_lent_verdict n a to limit buffer =
-    station_then n (subaddress_then a (range_then n to (limit_then limit (lent_then limit (length buffer) (offered_then (take limit buffer) Fine)))))
+    station_then n (subaddress_then a (range_then n to (limit_then limit (lent_then limit (length buffer) (offered_then (take limit buffer) (Ok tt))))))
 
 -- the three transfers at the trigger processor's entry: the same fields, with one row more, behind limit's: so 0 and above 512 are 7, and 33 to 512 are 13
 unfoldable pub short_scan_verdict : ℕ → ℕ → ℕ → ℕ → ℕ → ℕ → Verdict
 short_scan_verdict n a f to limit lent =
-    station_then n (subaddress_then a (transfer_then f (range_then n to (limit_then limit (long_then limit (lent_then limit lent Fine))))))
+    station_then n (subaddress_then a (transfer_then f (range_then n to (limit_then limit (long_then limit (lent_then limit lent (Ok tt)))))))
 
 unfoldable pub short_repeat_verdict : ℕ → ℕ → ℕ → ℕ → ℕ → ℕ → Verdict
 short_repeat_verdict n a f limit tries lent =
-    station_then n (subaddress_then a (transfer_then f (limit_then limit (long_then limit (tries_then tries (lent_then limit lent Fine))))))
+    station_then n (subaddress_then a (transfer_then f (limit_then limit (long_then limit (tries_then tries (lent_then limit lent (Ok tt)))))))
 
 unfoldable pub short_stop_verdict : ℕ → ℕ → ℕ → ℕ → ℕ → Verdict
 short_stop_verdict n a f limit lent =
-    station_then n (subaddress_then a (transfer_then f (limit_then limit (long_then limit (lent_then limit lent Fine)))))
+    station_then n (subaddress_then a (transfer_then f (limit_then limit (long_then limit (lent_then limit lent (Ok tt))))))
 
 abbrev pub short_verdict : Short → ℕ → Verdict
 short_verdict (ShortScan n a f to limit) lent = short_scan_verdict n a f to limit lent
@@ -172,16 +169,16 @@ short_verdict (ShortStop n a f limit) lent = short_stop_verdict n a f limit lent
 
 -- op=within n= to= lo= hi=, with so many words lent
 unfoldable pub within_verdict : (n to lo hi lent : ℕ) → Verdict
-within_verdict n to lo hi lent = station_then n (range_then n to (window_then lo hi (room_then n to lent Fine)))
+within_verdict n to lo hi lent = station_then n (range_then n to (window_then lo hi (room_then n to lent (Ok tt))))
 
 -- the verdict on a step that is lent this buffer; nothing is wrong with Z, C and the Look-at-Me reading
 abbrev pub step_verdict : Step → List ℕ → Verdict
 step_verdict (Command n a f w) buffer = command_verdict n a f w
 step_verdict (Front n a v) buffer = front_verdict n a v
-step_verdict Z buffer = Fine
-step_verdict C buffer = Fine
+step_verdict Z buffer = Ok tt
+step_verdict C buffer = Ok tt
 step_verdict (Inhibit v) buffer = inhibit_verdict v
-step_verdict LookAtMe buffer = Fine
+step_verdict LookAtMe buffer = Ok tt
 step_verdict (Scan n a f to limit) buffer = scan_verdict n a f to limit (length buffer)
 step_verdict (Repeat n a f limit tries) buffer = repeat_verdict n a f limit tries (length buffer)
 step_verdict (Stop n a f limit) buffer = stop_verdict n a f limit (length buffer)
@@ -192,5 +189,5 @@ step_verdict (Within n to lo hi) buffer = within_verdict n to lo hi (length buff
 
 -- the verdict on a reading: one that is no step has its own refusal
 abbrev pub verdict_of : Reading → List ℕ → Verdict
-verdict_of (Good s) buffer = step_verdict s buffer
-verdict_of (Bad q) buffer = Refuse q
+verdict_of (Ok s) buffer = step_verdict s buffer
+verdict_of (Err q) buffer = Err q

@@ -1,13 +1,13 @@
-// The rows of the table of refusals. Each function gives the refusal of its row where its field is bad, and else `rest`,
-// the verdict on what stands to the right of the field.
-ghost use Rattle.std.specs.Prelude.{◌≡◌, take};
-ghost use Rattle.step.specs.Modules.{fits_kind, has_room, fits_module, order_then, covered_then, module_then};
-ghost use Rattle.step.specs.Verdict.{within, transfer, unless, station_then, subaddress_then, function_then, transfer_then, word_then, inhibit_then};
-ghost use Rattle.step.specs.Verdict.{range_then, limit_then, long_then, tries_then, lent_then, are_narrow, offered_then};
-ghost use Rattle.step.specs.Verdict.{places_of, crossed_then, room_then};
-ghost use Rattle.step.specs.Verdict.{command_station, command_station_then, widest_of, command_word_then};
+// The rows of the table of refusals: each function sends back the refusal of its row where its field is bad.
+ghost use Rattle.std.specs.Prelude.{◌≡◌, take, nat_le, Ok};
+ghost use Rattle.std.specs.List.{list_all};
+ghost use Rattle.step.specs.Modules.{order_then, covered_then, module_then};
+ghost use Rattle.step.specs.Verdict.{within, unless, station_then, subaddress_then, function_then, transfer_then, word_then, inhibit_then};
+ghost use Rattle.step.specs.Verdict.{range_then, limit_then, long_then, tries_then, lent_then, offered_then};
+ghost use Rattle.step.specs.Verdict.{places_of, window_then, room_then};
+ghost use Rattle.step.specs.Verdict.{command_station_then, command_word_then};
 
-use crate::{Refusal, Verdict};
+use crate::{Entry, Refusal};
 use kinds::{Module, in_table};
 
 // The edges of the fields.
@@ -38,220 +38,161 @@ pub fn within(low: u32, x: u32, high: u32) -> bool
     low <= x && x <= high
 }
 
-// The N of a command: a station; 24 and 26, which send it to many; 28 and 30, the controller itself.
-fn is_command_station(n: u32) -> bool
-    ensures { result ≡ command_station n }
+// Nothing to send back, unless the test failed.
+pub fn ensure(ok: bool, q: Refusal) -> Result<(), Refusal>
+    ensures { result ≡ unless ok q (Ok tt) }
 {
-    if within(1, n, LAST_STATION) {
-        return true;
-    }
-    if n == 24 {
-        return true;
-    }
-    if n == 26 {
-        return true;
-    }
-    if n == 28 {
-        return true;
-    }
-    n == 30
+    if ok { Ok(()) } else { Err(q) }
 }
 
-// The widest word of a command: at N30 A8 F16 that of the Station Number Register.
-fn widest(n: u32, a: u32, f: u32) -> u32
-    ensures { result ≡ widest_of n a f }
+pub fn station(n: u32) -> Result<(), Refusal>
+    ensures { result ≡ station_then n (Ok tt) }
 {
-    if n != 30 {
-        return WIDEST_WORD;
-    }
-    if a != 8 {
-        return WIDEST_WORD;
-    }
-    if f != 16 {
-        return WIDEST_WORD;
-    }
-    WIDEST_REGISTER
+    ensure(within(1, n, LAST_STATION), Refusal::NoSuchStation)
+}
+
+// The N of a command: a station; 24 and 26, which send it to many; 28 and 30, the controller itself.
+pub(crate) fn command_station(n: u32) -> Result<(), Refusal>
+    ensures { result ≡ command_station_then n (Ok tt) }
+{
+    ensure(
+        within(1, n, LAST_STATION) || matches!(n, 24 | 26 | 28 | 30),
+        Refusal::NoSuchStation,
+    )
+}
+
+pub(crate) fn subaddress(a: u32) -> Result<(), Refusal>
+    ensures { result ≡ subaddress_then a (Ok tt) }
+{
+    ensure(a <= LAST_SUBADDRESS, Refusal::NoSuchSubaddress)
+}
+
+pub(crate) fn function(f: u32) -> Result<(), Refusal>
+    ensures { result ≡ function_then f (Ok tt) }
+{
+    ensure(f <= LAST_FUNCTION, Refusal::NoSuchFunction)
 }
 
 // The functions of a block transfer.
-fn is_transfer(f: u32) -> bool
-    ensures { result ≡ transfer f }
+pub(crate) fn transfer(f: u32) -> Result<(), Refusal>
+    ensures { result ≡ transfer_then f (Ok tt) }
 {
-    if f == 0 {
-        return true;
-    }
-    if f == 2 {
-        return true;
-    }
-    f == 3
+    ensure(matches!(f, 0 | 2 | 3), Refusal::NoSuchFunction)
 }
 
-// A kind of module (0 is an empty station), with r registers and a width as the table of kinds says.
-fn fits_kind(held: Module) -> bool
-    ensures { result ≡ fits_kind held }
+pub(crate) fn word(w: u32) -> Result<(), Refusal>
+    ensures { result ≡ word_then w (Ok tt) }
 {
-    1 <= held.kind && in_table(held.kind, held.r, held.wide)
+    ensure(w <= WIDEST_WORD, Refusal::OverwideWord)
 }
 
-// One station wide, or with a station to its right. A sum of station and width could wrap: the station is judged with all else, not before it.
-fn has_room(held: Module) -> bool
-    ensures { result ≡ has_room held }
+// The word of a command: at N30 A8 F16 that of the Station Number Register.
+pub(crate) fn command_word(n: u32, a: u32, f: u32, w: u32) -> Result<(), Refusal>
+    ensures { result ≡ command_word_then n a f w (Ok tt) }
 {
-    held.wide < 2 || held.n < LAST_STATION
-}
-
-// A module that fits the table and its station.
-fn fits_module(held: Module) -> bool
-    ensures { result ≡ fits_module held }
-{
-    fits_kind(held) && has_room(held)
-}
-
-// What follows, unless the test failed.
-pub fn unless(ok: bool, q: Refusal, rest: Verdict) -> Verdict
-    ensures { result ≡ unless ok q rest }
-{
-    if ok { rest } else { Verdict::Refuse(q) }
-}
-
-pub fn station_then(n: u32, rest: Verdict) -> Verdict
-    ensures { result ≡ station_then n rest }
-{
-    unless(within(1, n, LAST_STATION), Refusal::NoSuchStation, rest)
-}
-
-pub fn command_station_then(n: u32, rest: Verdict) -> Verdict
-    ensures { result ≡ command_station_then n rest }
-{
-    unless(is_command_station(n), Refusal::NoSuchStation, rest)
-}
-
-pub fn subaddress_then(a: u32, rest: Verdict) -> Verdict
-    ensures { result ≡ subaddress_then a rest }
-{
-    unless(a <= LAST_SUBADDRESS, Refusal::NoSuchSubaddress, rest)
-}
-
-pub fn function_then(f: u32, rest: Verdict) -> Verdict
-    ensures { result ≡ function_then f rest }
-{
-    unless(f <= LAST_FUNCTION, Refusal::NoSuchFunction, rest)
-}
-
-pub fn transfer_then(f: u32, rest: Verdict) -> Verdict
-    ensures { result ≡ transfer_then f rest }
-{
-    unless(is_transfer(f), Refusal::NoSuchFunction, rest)
-}
-
-pub fn word_then(w: u32, rest: Verdict) -> Verdict
-    ensures { result ≡ word_then w rest }
-{
-    unless(w <= WIDEST_WORD, Refusal::OverwideWord, rest)
-}
-
-pub fn command_word_then(n: u32, a: u32, f: u32, w: u32, rest: Verdict) -> Verdict
-    ensures { result ≡ command_word_then n a f w rest }
-{
-    unless(w <= widest(n, a, f), Refusal::OverwideWord, rest)
+    let widest = if n == 30 && a == 8 && f == 16 {
+        WIDEST_REGISTER
+    } else {
+        WIDEST_WORD
+    };
+    ensure(w <= widest, Refusal::OverwideWord)
 }
 
 // None of the first `limit` words is above 24 bits.
 fn are_narrow(words: &[u32], limit: usize) -> bool
-    ensures { result ≡ are_narrow (take limit words.now) }
+    ensures { result ≡ list_all (λ w. nat_le w WIDEST_WORD) (take limit words.now) }
 {
-    let mut k = 0;
-    while k < words.len() {
-        if k == limit {
-            return true;
-        }
-        if words[k] > WIDEST_WORD {
-            return false;
-        }
-        k += 1;
-    }
-    true
+    words.iter().take(limit).all(|w| *w <= WIDEST_WORD)
 }
 
-pub fn offered_then(words: &[u32], limit: u32, rest: Verdict) -> Verdict
-    ensures { result ≡ offered_then (take limit words.now) rest }
+#[tactic(auto, using(crate::proofs::Narrow::are_narrow_all))]
+pub(crate) fn offered(words: &[u32], limit: u32) -> Result<(), Refusal>
+    ensures { result ≡ offered_then (take limit words.now) (Ok tt) }
 {
-    let narrow = are_narrow(words, limit as usize);
-    unless(narrow, Refusal::OverwideWord, rest)
+    ensure(are_narrow(words, limit as usize), Refusal::OverwideWord)
 }
 
-pub fn inhibit_then(v: u32, rest: Verdict) -> Verdict
-    ensures { result ≡ inhibit_then v rest }
+pub(crate) fn inhibit(v: u32) -> Result<(), Refusal>
+    ensures { result ≡ inhibit_then v (Ok tt) }
 {
-    unless(v <= 1, Refusal::OverwideWord, rest)
+    ensure(v <= 1, Refusal::OverwideWord)
 }
 
-pub fn range_then(n: u32, to: u32, rest: Verdict) -> Verdict
-    ensures { result ≡ range_then n to rest }
+pub fn range(n: u32, to: u32) -> Result<(), Refusal>
+    ensures { result ≡ range_then n to (Ok tt) }
 {
-    unless(within(n, to, LAST_STATION), Refusal::CrossedRange, rest)
+    ensure(within(n, to, LAST_STATION), Refusal::CrossedRange)
 }
 
-pub fn limit_then(limit: u32, rest: Verdict) -> Verdict
-    ensures { result ≡ limit_then limit rest }
+pub(crate) fn length(limit: u32) -> Result<(), Refusal>
+    ensures { result ≡ limit_then limit (Ok tt) }
 {
-    unless(within(1, limit, MOST_WORDS), Refusal::BadLength, rest)
+    ensure(within(1, limit, MOST_WORDS), Refusal::BadLength)
 }
 
-pub fn long_then(limit: u32, rest: Verdict) -> Verdict
-    ensures { result ≡ long_then limit rest }
+// The trigger processor's entry alone has this row.
+pub(crate) fn entry_length(at: Entry, limit: u32) -> Result<(), Refusal>
+    ensures general { at ≡ Entry.General → result ≡ Ok tt }
+    ensures processor { at ≡ Entry.Processor → result ≡ long_then limit (Ok tt) }
 {
-    unless(limit <= MOST_SHORT, Refusal::LongTransfer, rest)
+    ensure(
+        at == Entry::General || limit <= MOST_SHORT,
+        Refusal::LongTransfer,
+    )
 }
 
-pub fn tries_then(tries: u32, rest: Verdict) -> Verdict
-    ensures { result ≡ tries_then tries rest }
+pub(crate) fn number_of_tries(tries: u32) -> Result<(), Refusal>
+    ensures { result ≡ tries_then tries (Ok tt) }
 {
-    unless(within(1, tries, MOST_TRIES), Refusal::BadLength, rest)
+    ensure(within(1, tries, MOST_TRIES), Refusal::BadLength)
 }
 
-pub fn lent_then(limit: u32, lent: usize, rest: Verdict) -> Verdict
-    ensures { result ≡ lent_then limit lent rest }
+pub(crate) fn room_for(limit: u32, lent: usize) -> Result<(), Refusal>
+    ensures { result ≡ lent_then limit lent (Ok tt) }
 {
-    unless(limit as usize <= lent, Refusal::ShortBuffer, rest)
+    ensure(limit as usize <= lent, Refusal::ShortBuffer)
+}
+
+// A window from lo to hi: 5 for lo, 5 for hi, then 14.
+pub fn window(lo: u32, hi: u32) -> Result<(), Refusal>
+    ensures { result ≡ window_then lo hi (Ok tt) }
+{
+    word(lo)?;
+    word(hi)?;
+    ensure(lo <= hi, Refusal::CrossedWindow)
 }
 
 // How many subaddresses the stations n to `to` have: 16 each, none where `to` is below n.
 pub fn places(n: u32, to: u32) -> usize
     ensures { result ≡ places_of n to }
 {
-    if to < n {
-        return 0;
-    }
-    SUBADDRESSES as usize * (to as usize + 1 - n as usize)
+    SUBADDRESSES as usize * (to as usize + 1).saturating_sub(n as usize)
 }
 
-pub fn crossed_then(lo: u32, hi: u32, rest: Verdict) -> Verdict
-    ensures { result ≡ crossed_then lo hi rest }
+pub fn room_for_places(n: u32, to: u32, lent: usize) -> Result<(), Refusal>
+    ensures { result ≡ room_then n to lent (Ok tt) }
 {
-    unless(lo <= hi, Refusal::CrossedWindow, rest)
+    ensure(places(n, to) <= lent, Refusal::ShortBuffer)
 }
 
-pub fn room_then(n: u32, to: u32, lent: usize, rest: Verdict) -> Verdict
-    ensures { result ≡ room_then n to lent rest }
+pub(crate) fn order(previous: u32, n: u32) -> Result<(), Refusal>
+    ensures { result ≡ order_then previous n (Ok tt) }
 {
-    unless(places(n, to) <= lent, Refusal::ShortBuffer, rest)
+    ensure(previous < n, Refusal::OutOfOrder)
 }
 
-pub fn order_then(previous: u32, n: u32, rest: Verdict) -> Verdict
-    ensures { result ≡ order_then previous n rest }
+pub(crate) fn uncovered(covered: u32) -> Result<(), Refusal>
+    ensures { result ≡ covered_then covered (Ok tt) }
 {
-    unless(previous < n, Refusal::OutOfOrder, rest)
+    ensure(covered == 0, Refusal::CoveredStation)
 }
 
-pub fn covered_then(covered: u32, rest: Verdict) -> Verdict
-    ensures { result ≡ covered_then covered rest }
+// A kind of module (0 is an empty station), with r registers and a width as the table of kinds says; and one station wide, or with a station to its right.
+// A sum of station and width could wrap: the station is judged with all else, not before it.
+pub(crate) fn fitting(held: Module) -> Result<(), Refusal>
+    ensures { result ≡ module_then held (Ok tt) }
 {
-    unless(covered == 0, Refusal::CoveredStation, rest)
-}
-
-pub fn module_then(held: Module, rest: Verdict) -> Verdict
-    ensures { result ≡ module_then held rest }
-{
-    unless(fits_module(held), Refusal::BadModule, rest)
+    let fits_kind = 1 <= held.kind && in_table(held.kind, held.r, held.wide);
+    let has_room = held.wide < 2 || held.n < LAST_STATION;
+    ensure(fits_kind && has_room, Refusal::BadModule)
 }

@@ -7,22 +7,21 @@ pub mod fields;
 ghost use Rattle.std.specs.Prelude.{◌≡◌};
 ghost use Rattle.step.specs.Modules.{module_verdict};
 ghost use Rattle.step.specs.Refusals.{refusal_number};
-ghost use Rattle.step.specs.Touches.{short_reach, reach};
+ghost use Rattle.step.specs.Touches.{reach};
 ghost use Rattle.step.specs.Verdict.{command_verdict, front_verdict, inhibit_verdict, scan_verdict, repeat_verdict, stop_verdict, put_verdict, put_lent_verdict, within_verdict, step_verdict};
 ghost use Rattle.step.specs.Verdict.{short_scan_verdict, short_repeat_verdict, short_stop_verdict, short_verdict};
 
 use fields::{
-    LAST_STATION, command_station_then, command_word_then, covered_then, crossed_then,
-    function_then, inhibit_then, lent_then, limit_then, long_then, module_then, offered_then,
-    order_then, range_then, room_then, station_then, subaddress_then, transfer_then, tries_then,
-    within, word_then,
+    LAST_STATION, command_station, command_word, entry_length, fitting, function, inhibit, length,
+    number_of_tries, offered, order, range, room_for, room_for_places, station, subaddress,
+    transfer, uncovered, window, within, word,
 };
 use kinds::Module;
 
 // What is sent back, in the order of the numbers, from 1 on.
-#[derive(Clone, Copy)]
+#[derive(Clone, Copy, PartialEq, Eq)]
 pub enum Refusal {
-    Garbled,
+    Garbled = 1,
     NoSuchStation,
     NoSuchSubaddress,
     NoSuchFunction,
@@ -39,7 +38,7 @@ pub enum Refusal {
 }
 
 // The kinds of step, each with the fields of its line in a run file.
-#[derive(Clone, Copy)]
+#[derive(Clone, Copy, PartialEq, Eq)]
 pub enum Step {
     Command {
         n: u32,
@@ -105,7 +104,7 @@ pub enum Step {
 }
 
 // The transfers at the trigger processor's entry, with the fields of the general entry's.
-#[derive(Clone, Copy)]
+#[derive(Clone, Copy, PartialEq, Eq)]
 pub enum Short {
     ShortScan {
         n: u32,
@@ -129,25 +128,11 @@ pub enum Short {
     },
 }
 
-// The reading of a run line, or of a step lent as words.
-#[derive(Clone, Copy)]
-pub enum Reading {
-    Good(Step),
-    Bad(Refusal),
-}
-
-// The reading of a crate line.
-#[derive(Clone, Copy)]
-pub enum ModuleLine {
-    Holds(Module),
-    Bad(Refusal),
-}
-
-// Whether a step or a module may be had, and what is sent back where it may not.
-#[derive(Clone, Copy)]
-pub enum Verdict {
-    Fine,
-    Refuse(Refusal),
+// Where a transfer is asked for: at the general entry, or at the trigger processor's.
+#[derive(Clone, Copy, PartialEq, Eq)]
+enum Entry {
+    General,
+    Processor,
 }
 
 // How many refusals there are. Their numbers are 1 to REFUSALS.
@@ -157,48 +142,50 @@ pub const REFUSALS: u32 = 14;
 pub fn refusal_number(q: Refusal) -> u32
     ensures { result ≡ refusal_number q }
 {
-    match q {
-        Refusal::Garbled => 1,
-        Refusal::NoSuchStation => 2,
-        Refusal::NoSuchSubaddress => 3,
-        Refusal::NoSuchFunction => 4,
-        Refusal::OverwideWord => 5,
-        Refusal::CrossedRange => 6,
-        Refusal::BadLength => 7,
-        Refusal::ShortBuffer => 8,
-        Refusal::UnfitCrate => 9,
-        Refusal::BadModule => 10,
-        Refusal::OutOfOrder => 11,
-        Refusal::CoveredStation => 12,
-        Refusal::LongTransfer => 13,
-        Refusal::CrossedWindow => 14,
-    }
+    q as u32
 }
 
 // The verdict on a step that is lent a buffer. Of the buffer its length counts, in a transfer, a put of lent words and a listing; of its words the first `limit`, in that put alone.
-pub fn judge(step: Step, buffer: &[u32]) -> Verdict
+pub fn judge(step: Step, buffer: &[u32]) -> Result<(), Refusal>
     ensures { result ≡ step_verdict step buffer.now }
 {
+    let lent = buffer.len();
     match step {
         Step::Command { n, a, f, w } => judge_command(n, a, f, w),
         Step::Front { n, a, v } => judge_front(n, a, v),
-        Step::Z => Verdict::Fine,
-        Step::C => Verdict::Fine,
+        Step::Z | Step::C | Step::LookAtMe => Ok(()),
         Step::Inhibit { v } => judge_inhibit(v),
-        Step::LookAtMe => Verdict::Fine,
-        Step::Scan { n, a, f, to, limit } => judge_scan(n, a, f, to, limit, buffer.len()),
+        Step::Scan { n, a, f, to, limit } => judge_scan(Entry::General, n, a, f, to, limit, lent),
         Step::Repeat {
             n,
             a,
             f,
             limit,
             tries,
-        } => judge_repeat(n, a, f, limit, tries, buffer.len()),
-        Step::Stop { n, a, f, limit } => judge_stop(n, a, f, limit, buffer.len()),
+        } => judge_repeat(Entry::General, n, a, f, limit, tries, lent),
+        Step::Stop { n, a, f, limit } => judge_stop(Entry::General, n, a, f, limit, lent),
         Step::Put { n, a, to, limit, w } => judge_put(n, a, to, limit, w),
         Step::PutLent { n, a, to, limit } => judge_put_lent(n, a, to, limit, buffer),
-        Step::Processor(short) => judge_short(short, buffer.len()),
-        Step::Within { n, to, lo, hi } => judge_within(n, to, lo, hi, buffer.len()),
+        Step::Processor(short) => judge_short(short, lent),
+        Step::Within { n, to, lo, hi } => judge_within(n, to, lo, hi, lent),
+    }
+}
+
+// The same of a transfer at the trigger processor's entry.
+fn judge_short(short: Short, lent: usize) -> Result<(), Refusal>
+    ensures { result ≡ short_verdict short lent }
+{
+    let at = Entry::Processor;
+    match short {
+        Short::ShortScan { n, a, f, to, limit } => judge_scan(at, n, a, f, to, limit, lent),
+        Short::ShortRepeat {
+            n,
+            a,
+            f,
+            limit,
+            tries,
+        } => judge_repeat(at, n, a, f, limit, tries, lent),
+        Short::ShortStop { n, a, f, limit } => judge_stop(at, n, a, f, limit, lent),
     }
 }
 
@@ -207,161 +194,145 @@ pub fn reaches(step: Step, k: u32) -> bool
     ensures { result ≡ reach step k }
 {
     match step {
-        Step::Command { n, a, f, w } => if n <= LAST_STATION { n == k } else { true },
-        Step::Front { n, a, v } => n == k,
-        Step::Z => true,
-        Step::C => true,
-        Step::Inhibit { v } => true,
-        Step::LookAtMe => true,
-        Step::Scan { n, a, f, to, limit } => within(n, k, to),
-        Step::Repeat {
-            n,
-            a,
-            f,
-            limit,
-            tries,
-        } => n == k,
-        Step::Stop { n, a, f, limit } => n == k,
-        Step::Put { n, a, to, limit, w } => within(n, k, to),
-        Step::PutLent { n, a, to, limit } => within(n, k, to),
-        Step::Processor(short) => short_reaches(short, k),
-        Step::Within { n, to, lo, hi } => within(n, k, to),
-    }
-}
-
-// The same of a transfer at the trigger processor's entry.
-fn short_reaches(short: Short, k: u32) -> bool
-    ensures { result ≡ short_reach short k }
-{
-    match short {
-        Short::ShortScan { n, a, f, to, limit } => within(n, k, to),
-        Short::ShortRepeat {
-            n,
-            a,
-            f,
-            limit,
-            tries,
-        } => n == k,
-        Short::ShortStop { n, a, f, limit } => n == k,
+        Step::Command { n, .. } => LAST_STATION < n || n == k,
+        Step::Front { n, .. }
+        | Step::Repeat { n, .. }
+        | Step::Stop { n, .. }
+        | Step::Processor(Short::ShortRepeat { n, .. } | Short::ShortStop { n, .. }) => n == k,
+        Step::Z | Step::C | Step::Inhibit { .. } | Step::LookAtMe => true,
+        Step::Scan { n, to, .. }
+        | Step::Put { n, to, .. }
+        | Step::PutLent { n, to, .. }
+        | Step::Within { n, to, .. }
+        | Step::Processor(Short::ShortScan { n, to, .. }) => within(n, k, to),
     }
 }
 
 // The verdict on a crate line after a line for the station `previous`, which is 0 before the first; word 7 of its own station is `covered`.
-pub fn judge_module(previous: u32, covered: u32, held: Module) -> Verdict
+#[tactic(auto, unfolding(crate::specs::Modules::module_verdict))]
+pub fn judge_module(previous: u32, covered: u32, held: Module) -> Result<(), Refusal>
     ensures { result ≡ module_verdict previous covered held }
 {
-    let n = held.n;
-    let rest = covered_then(covered, module_then(held, Verdict::Fine));
-    station_then(n, order_then(previous, n, rest))
+    station(held.n)?;
+    order(previous, held.n)?;
+    uncovered(covered)?;
+    fitting(held)
 }
 
-// The kinds of step, field by field. What stands to the right of a field is handed to it, so the leftmost fault counts.
+// The kinds of step, field by field from left to right, then the buffer: the first fault counts.
 
-fn judge_command(n: u32, a: u32, f: u32, w: u32) -> Verdict
+#[tactic(auto, unfolding(crate::specs::Verdict::command_verdict))]
+fn judge_command(n: u32, a: u32, f: u32, w: u32) -> Result<(), Refusal>
     ensures { result ≡ command_verdict n a f w }
 {
-    let rest = function_then(f, command_word_then(n, a, f, w, Verdict::Fine));
-    command_station_then(n, subaddress_then(a, rest))
+    command_station(n)?;
+    subaddress(a)?;
+    function(f)?;
+    command_word(n, a, f, w)
 }
 
-fn judge_front(n: u32, a: u32, v: u32) -> Verdict
+#[tactic(auto, unfolding(crate::specs::Verdict::front_verdict))]
+fn judge_front(n: u32, a: u32, v: u32) -> Result<(), Refusal>
     ensures { result ≡ front_verdict n a v }
 {
-    station_then(n, subaddress_then(a, word_then(v, Verdict::Fine)))
+    station(n)?;
+    subaddress(a)?;
+    word(v)
 }
 
-fn judge_inhibit(v: u32) -> Verdict
+#[tactic(auto, unfolding(crate::specs::Verdict::inhibit_verdict))]
+fn judge_inhibit(v: u32) -> Result<(), Refusal>
     ensures { result ≡ inhibit_verdict v }
 {
-    inhibit_then(v, Verdict::Fine)
+    inhibit(v)
 }
 
-fn judge_scan(n: u32, a: u32, f: u32, to: u32, limit: u32, lent: usize) -> Verdict
-    ensures { result ≡ scan_verdict n a f to limit lent }
+#[tactic(auto, unfolding(crate::specs::Verdict::scan_verdict, crate::specs::Verdict::short_scan_verdict))]
+fn judge_scan(
+    at: Entry,
+    n: u32,
+    a: u32,
+    f: u32,
+    to: u32,
+    limit: u32,
+    lent: usize,
+) -> Result<(), Refusal>
+    ensures general { at ≡ Entry.General → result ≡ scan_verdict n a f to limit lent }
+    ensures processor { at ≡ Entry.Processor → result ≡ short_scan_verdict n a f to limit lent }
 {
-    let lengths = limit_then(limit, lent_then(limit, lent, Verdict::Fine));
-    let rest = transfer_then(f, range_then(n, to, lengths));
-    station_then(n, subaddress_then(a, rest))
+    station(n)?;
+    subaddress(a)?;
+    transfer(f)?;
+    range(n, to)?;
+    length(limit)?;
+    entry_length(at, limit)?;
+    room_for(limit, lent)
 }
 
-fn judge_repeat(n: u32, a: u32, f: u32, limit: u32, tries: u32, lent: usize) -> Verdict
-    ensures { result ≡ repeat_verdict n a f limit tries lent }
+#[tactic(auto, unfolding(crate::specs::Verdict::repeat_verdict, crate::specs::Verdict::short_repeat_verdict))]
+fn judge_repeat(
+    at: Entry,
+    n: u32,
+    a: u32,
+    f: u32,
+    limit: u32,
+    tries: u32,
+    lent: usize,
+) -> Result<(), Refusal>
+    ensures general { at ≡ Entry.General → result ≡ repeat_verdict n a f limit tries lent }
+    ensures processor { at ≡ Entry.Processor → result ≡ short_repeat_verdict n a f limit tries lent }
 {
-    let buffer = lent_then(limit, lent, Verdict::Fine);
-    let rest = limit_then(limit, tries_then(tries, buffer));
-    station_then(n, subaddress_then(a, transfer_then(f, rest)))
+    station(n)?;
+    subaddress(a)?;
+    transfer(f)?;
+    length(limit)?;
+    entry_length(at, limit)?;
+    number_of_tries(tries)?;
+    room_for(limit, lent)
 }
 
-fn judge_stop(n: u32, a: u32, f: u32, limit: u32, lent: usize) -> Verdict
-    ensures { result ≡ stop_verdict n a f limit lent }
+#[tactic(auto, unfolding(crate::specs::Verdict::stop_verdict, crate::specs::Verdict::short_stop_verdict))]
+fn judge_stop(at: Entry, n: u32, a: u32, f: u32, limit: u32, lent: usize) -> Result<(), Refusal>
+    ensures general { at ≡ Entry.General → result ≡ stop_verdict n a f limit lent }
+    ensures processor { at ≡ Entry.Processor → result ≡ short_stop_verdict n a f limit lent }
 {
-    let rest = limit_then(limit, lent_then(limit, lent, Verdict::Fine));
-    station_then(n, subaddress_then(a, transfer_then(f, rest)))
+    station(n)?;
+    subaddress(a)?;
+    transfer(f)?;
+    length(limit)?;
+    entry_length(at, limit)?;
+    room_for(limit, lent)
 }
 
-fn judge_put(n: u32, a: u32, to: u32, limit: u32, w: u32) -> Verdict
+#[tactic(auto, unfolding(crate::specs::Verdict::put_verdict))]
+fn judge_put(n: u32, a: u32, to: u32, limit: u32, w: u32) -> Result<(), Refusal>
     ensures { result ≡ put_verdict n a to limit w }
 {
-    let lengths = limit_then(limit, word_then(w, Verdict::Fine));
-    station_then(n, subaddress_then(a, range_then(n, to, lengths)))
+    station(n)?;
+    subaddress(a)?;
+    range(n, to)?;
+    length(limit)?;
+    word(w)
 }
 
-fn judge_put_lent(n: u32, a: u32, to: u32, limit: u32, buffer: &[u32]) -> Verdict
+#[tactic(auto, unfolding(crate::specs::Verdict::put_lent_verdict))]
+fn judge_put_lent(n: u32, a: u32, to: u32, limit: u32, buffer: &[u32]) -> Result<(), Refusal>
     ensures { result ≡ put_lent_verdict n a to limit buffer.now }
 {
-    let lent = buffer.len();
-    let words = lent_then(limit, lent, offered_then(buffer, limit, Verdict::Fine));
-    let rest = range_then(n, to, limit_then(limit, words));
-    station_then(n, subaddress_then(a, rest))
+    station(n)?;
+    subaddress(a)?;
+    range(n, to)?;
+    length(limit)?;
+    room_for(limit, buffer.len())?;
+    offered(buffer, limit)
 }
 
-// The transfers at the trigger processor's entry: the same fields, with one row more, behind limit's.
-
-fn judge_short(short: Short, lent: usize) -> Verdict
-    ensures { result ≡ short_verdict short lent }
-{
-    match short {
-        Short::ShortScan { n, a, f, to, limit } => judge_short_scan(n, a, f, to, limit, lent),
-        Short::ShortRepeat {
-            n,
-            a,
-            f,
-            limit,
-            tries,
-        } => judge_short_repeat(n, a, f, limit, tries, lent),
-        Short::ShortStop { n, a, f, limit } => judge_short_stop(n, a, f, limit, lent),
-    }
-}
-
-fn judge_short_scan(n: u32, a: u32, f: u32, to: u32, limit: u32, lent: usize) -> Verdict
-    ensures { result ≡ short_scan_verdict n a f to limit lent }
-{
-    let buffer = lent_then(limit, lent, Verdict::Fine);
-    let lengths = limit_then(limit, long_then(limit, buffer));
-    let rest = transfer_then(f, range_then(n, to, lengths));
-    station_then(n, subaddress_then(a, rest))
-}
-
-fn judge_short_repeat(n: u32, a: u32, f: u32, limit: u32, tries: u32, lent: usize) -> Verdict
-    ensures { result ≡ short_repeat_verdict n a f limit tries lent }
-{
-    let buffer = lent_then(limit, lent, Verdict::Fine);
-    let rest = limit_then(limit, long_then(limit, tries_then(tries, buffer)));
-    station_then(n, subaddress_then(a, transfer_then(f, rest)))
-}
-
-fn judge_short_stop(n: u32, a: u32, f: u32, limit: u32, lent: usize) -> Verdict
-    ensures { result ≡ short_stop_verdict n a f limit lent }
-{
-    let words = long_then(limit, lent_then(limit, lent, Verdict::Fine));
-    let rest = limit_then(limit, words);
-    station_then(n, subaddress_then(a, transfer_then(f, rest)))
-}
-
-fn judge_within(n: u32, to: u32, lo: u32, hi: u32, lent: usize) -> Verdict
+#[tactic(auto, unfolding(crate::specs::Verdict::within_verdict))]
+fn judge_within(n: u32, to: u32, lo: u32, hi: u32, lent: usize) -> Result<(), Refusal>
     ensures { result ≡ within_verdict n to lo hi lent }
 {
-    let window = crossed_then(lo, hi, room_then(n, to, lent, Verdict::Fine));
-    let rest = word_then(lo, word_then(hi, window));
-    station_then(n, range_then(n, to, rest))
+    station(n)?;
+    range(n, to)?;
+    window(lo, hi)?;
+    room_for_places(n, to, lent)
 }

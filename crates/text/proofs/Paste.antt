@@ -5,8 +5,9 @@ use mathlib.Core.List.{List, [], ◌∷◌, ◌++◌, append-nil, append_assoc}
 use native.Mathlib.Nat.{add-zero}
 use native.Mathlib.Numerals.{add-one}
 use native.Mathlib.Omega.{arith}
-use lib.ListN.{length, take, drop, set, length-append, length-drop, take-append-drop}
-use lib.Seq.{append_snoc, length-take-le, set_split, take-add, take_at, take-append-le, take-length, drop_at, drop-drop, take-set-le}
+use borrow.Rule.Slice.PartMut.{put_mid}
+use lib.ListN.{length, take, drop, set, get_or, length-append, length-drop, take-append-drop}
+use lib.Seq.{append_snoc, length-take-le, set_split, take-add, take-suc, take_at, take-append-le, take-length, drop_at, drop-drop, take-set-le}
 use Rattle.text.specs.Digits.{digits}
 use Rattle.text.specs.Paste.{pasted, Put, Behind}
 use Rattle.text.specs.Text.{decimal}
@@ -24,6 +25,11 @@ length-pasted o at text h = simp (length-append, length-take-le at o (omega arit
 pub paste-one : (o : List ℕ) (i x : ℕ) → i < length o → pasted o i (x ∷ []) ≡ set o i x
 unfolding pasted
 paste-one o i x h = rw (add-one i, append_snoc (take i o) x (drop (suc i) o)) (sym (set_split o i x h))
+
+-- bytes copied into a part of a buffer are pasted there
+pub paste-part : (o : List ℕ) (at k : ℕ) (u t : List ℕ) → u ≡ t → k ≡ length t → put_mid at k o u ≡ pasted o at t
+unfolding pasted
+paste-part o at k u t e n = rw (e, n, drop-drop (length t) at o) (sym (append_assoc (take at o) t (drop (at + length t) o)))
 
 -- and the store of a digit the putting of a number below 10
 pub put-digit : (o : List ℕ) (i n : ℕ) → n < 10 → i < length o → Put o i (decimal n) (set o i (48 + n)) (i + 1)
@@ -57,6 +63,16 @@ pub paste_more : (o : List ℕ) (at : ℕ) (a : List ℕ) (x : ℕ) → at + len
 paste_more o at a x h =
     let n : length (pasted o at a) ≡ length o = length-pasted o at a (omega arith) in
     sym (paste-one (pasted o at a) (at + length a) x (omega arith)) ∙ paste-then o at a (x ∷ []) (omega arith)
+
+-- the same of the byte that follows the first i of a text
+pub paste_next : (o p bytes : List ℕ) (at i : ℕ) → p ≡ pasted o at (take i bytes) → i < length bytes → at + length bytes ≤ length o
+    → set p (at + i) (get_or bytes i 0) ≡ pasted o at (take (i + 1) bytes)
+paste_next o p bytes at i e h room =
+    let n : length (take i bytes) ≡ i = length-take-le i bytes (omega arith) in
+    rw (e, add-one i, take-suc bytes i 0 h) (rw n at (paste_more o at (take i bytes) (get_or bytes i 0) (omega arith)))
+
+-- a text pasted byte by byte
+pub ruleset bytewise = (paste-nothing, paste_next)
 
 -- after a store, what stands from its place on
 from-store : (o : List ℕ) (i x : ℕ) → i < length o → drop i (set o i x) ≡ x ∷ drop (suc i) o

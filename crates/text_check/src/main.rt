@@ -45,36 +45,21 @@ fn show_both(rt: &impl Print, n: u32) {
 }
 
 // The least and the greatest number of each length.
-fn show_lengths(rt: &impl Print) {
-    show_both(rt, 0);
-    show_both(rt, 9);
-    show_both(rt, 10);
-    show_both(rt, 99);
-    show_both(rt, 100);
-    show_both(rt, 999);
-    show_both(rt, 1000);
-    show_both(rt, 9999);
-    show_both(rt, 10000);
-    show_both(rt, 99999);
-    show_both(rt, 100000);
-    show_both(rt, 999999);
-    show_both(rt, 1000000);
-    show_both(rt, 9999999);
-    show_both(rt, 10000000);
-    show_both(rt, 99999999);
-    show_both(rt, 100000000);
-    show_both(rt, 999999999);
-    show_both(rt, 1000000000);
-    show_both(rt, 4294967295);
-}
+const BOUNDS: [u32; 20] = [
+    0, 9, 10, 99, 100, 999, 1000, 9999, 10000, 99999, 100000, 999999, 1000000, 9999999, 10000000,
+    99999999, 100000000, 999999999, 1000000000, 4294967295,
+];
+
+// Others, with zeros inside and of 24, 30 and 32 bits.
+const OTHERS: [u32; 5] = [1, 101, 16777215, 1020304050, 2147483648];
 
 fn main(rt: HostRuntime) {
-    show_lengths(&rt);
-    show_both(&rt, 1);
-    show_both(&rt, 101);
-    show_both(&rt, 16777215);
-    show_both(&rt, 1020304050);
-    show_both(&rt, 2147483648);
+    for n in BOUNDS {
+        show_both(&rt, n);
+    }
+    for n in OTHERS {
+        show_both(&rt, n);
+    }
     show_bytes(&rt, 0, b"");
     show_bytes(&rt, 7, b"");
     show_bytes(&rt, 14, b"");

@@ -23,39 +23,24 @@ pub record Lent (m₀ buf₀ m buf : List ℕ) (words : ℕ) : Type 0 where
   pub long : length buf ≡ length buf₀
   pub past : (k : ℕ) → words ≤ k → drop k buf ≡ drop k buf₀
 
--- nothing done yet
-pub lent-here : {m buf : List ℕ} {words : ℕ} → FitCrate m → Lent m buf m buf words
-lent-here p = record { fit = p; size = refl; long = refl; past = λ k h. refl }
-
--- what an inner loop did, on what the outer one did
-pub lent-on : {m₀ buf₀ m₁ buf₁ m buf : List ℕ} {words₁ words : ℕ} → words₁ ≤ words → Lent m₀ buf₀ m₁ buf₁ words₁
-    → Lent m₁ buf₁ m buf words → Lent m₀ buf₀ m buf words
-lent-on l g h = record {
-  fit = h.fit;
-  size = h.size ∙ g.size;
-  long = h.long ∙ g.long;
-  past = λ k p. h.past k p ∙ g.past k (omega arith);
-}
-
--- a command at n, a was made on m: its reply, and the memory after it
-pub record Made (m : List ℕ) (n a f : ℕ) (reply : Reply) (m' : List ℕ) : Type 0 where
-  pub answer : reply ≡ reply_of m n a f 0
-  pub memory : m' ≡ after_command m n a f 0
+-- a station of the crate, and a subaddress of it
+pub record Place (n a : ℕ) : Type 0 where
   pub from : 1 ≤ n
   pub station : n ≤ 23
   pub low : a ≤ 15
 
-pub made : {m : List ℕ} {n a f : ℕ} {reply : Reply} {m' : List ℕ} → reply ≡ reply_of m n a f 0 → m' ≡ after_command m n a f 0
-    → 1 ≤ n → n ≤ 23 → a ≤ 15 → Made m n a f reply m'
-made p q lo hi low = record { answer = p; memory = q; from = lo; station = hi; low = low }
+-- a command at n, a was made on m: its reply, and the memory after it
+abbrev pub Made : (m : List ℕ) (n a f : ℕ) (reply : Reply) (m' : List ℕ) → Type 0
+Made m n a f reply m' = record { answer : reply ≡ reply_of m n a f 0; memory : m' ≡ after_command m n a f 0 }
 
-module _ {m₀ buf₀ m buf m' : List ℕ} {words n a f : ℕ} {reply : Reply} (h : Lent m₀ buf₀ m buf words) (d : Made m n a f reply m') where
+module _ {m₀ buf₀ m buf m' : List ℕ} {words n a : ℕ} {reply : Reply} (f : ℕ) (h : Lent m₀ buf₀ m buf words) (p : Place n a)
+    (d : Made m n a f reply m') where
   after-fit : FitCrate m'
-  after-fit = rw d.memory (command-fit m n h.fit d.from d.station a f 0 d.low (omega arith))
+  after-fit = rw d.memory (command-fit m n h.fit p.from p.station a f 0 p.low (omega arith))
 
   -- and its station accepts F where it did
   pub still-accepts : (t : Span) → AcceptsAt m n f t → AcceptsAt m' n f t
-  still-accepts t s = rw d.memory (command-accepts m n h.fit d.from d.station a f 0 d.low (omega arith) f t s)
+  still-accepts t s = rw d.memory (command-accepts m n h.fit p.from p.station a f 0 p.low (omega arith) f t s)
 
   -- the command's word is not stored
   pub lent-kept : Lent m₀ buf₀ m' buf words
@@ -88,11 +73,37 @@ lent-words {buf = buf} {words = words} h l = length-take-le words buf (omega (ar
 
 -- the three promises of a transfer's contract, about what it comes to
 abbrev pub Done : Ended → List ℕ → Transfer → List ℕ → List ℕ → Type 0
-Done e buf₀ answer m buf = (answer ≡ transfer_of e) × ((m ≡ e.memory) × (buf ≡ buffer_after e buf₀))
+Done e buf₀ answer m buf = record { answer : answer ≡ transfer_of e; memory : m ≡ e.memory; buffer : buf ≡ buffer_after e buf₀ }
 
 -- where the transfer ends as its definition does, they are kept
 pub finish : {e : Ended} {k : ℕ} {m₀ buf₀ m buf : List ℕ} {words cycles : ℕ} → Lent m₀ buf₀ m buf words → words ≤ length buf₀
     → e ≡ ended k m (take words buf) cycles → Done e buf₀ (record { end = k; words = words; cycles = cycles }) m buf
 finish {buf = buf} {words = words} h l p =
     rw (p, lent-words h l)
-    (refl, (refl, sym (take-append-drop words buf) ∙ ap (λ (x : List ℕ). take words buf ++ x) (h.past words (omega arith))))
+    (record {
+      answer = refl;
+      memory = refl;
+      buffer = sym (take-append-drop words buf) ∙ ap (λ (x : List ℕ). take words buf ++ x) (h.past words (omega arith));
+    })
+
+-- ---- a transfer that stays at its place
+
+-- a transfer under way at n, a, whose station accepts F in the span t; the buffer has room for `limit` words
+pub record Staying (n a f limit : ℕ) (t : Span) (m₀ buf₀ m buf : List ℕ) (words : ℕ) : Type 0 where
+  pub place : Place n a
+  pub room : limit ≤ length buf₀
+  pub lent : Lent m₀ buf₀ m buf words
+  pub accepts : AcceptsAt m n f t
+
+module _ {m₀ buf₀ m buf m' : List ℕ} {words n a f limit : ℕ} {t : Span} {reply : Reply} (g : Staying n a f limit t m₀ buf₀ m buf words)
+    (d : Made m n a f reply m') where
+  -- the word of a cycle is not stored
+  pub stay-kept : Staying n a f limit t m₀ buf₀ m' buf words
+  stay-kept = record { place = g.place; room = g.room; lent = lent-kept f g.lent g.place d; accepts = still-accepts f g.lent g.place d t g.accepts }
+
+  -- it is stored
+  pub stay-put : Staying n a f limit t m₀ buf₀ m' (set buf words reply.r) (words + 1)
+  stay-put = record { place = g.place; room = g.room; lent = lent-put f g.lent g.place d; accepts = still-accepts f g.lent g.place d t g.accepts }
+
+  pub stay-words : words < limit → take (words + 1) (set buf words reply.r) ≡ store (reply_of m n a f 0) (take words buf)
+  stay-words l = put-words f g.lent g.place d (omega (arith, g.room))

@@ -8,7 +8,8 @@ pub mod repeat;
 pub mod scan;
 pub mod stop;
 
-// What a transfer answers: how it ended, how many words it stored (a put: used up), how many cycles it made.
+// What a transfer answers: how it ended, how many words it stored (a put: used up), how many cycles it made. The end is a number, no enum: the theorems on
+// steps and the answers' words, in the crates above, speak of 1, 2 and 3.
 #[derive(Clone, Copy)]
 pub struct Transfer {
     pub end: u32,

@@ -18,17 +18,15 @@ pub fn repeat(
     tries: u32,
 ) -> Transfer
     requires fit_crate { FitCrate memory.old }
-    requires le_n { (1 ≤ n) × (n ≤ 23) × (a ≤ 15) × ReadFunction f × (1 ≤ limit) × (limit ≤ 512) × (limit ≤ length buffer.old) × (tries ≤ 4096) }
+    requires fields { (1 ≤ n) × (n ≤ 23) × (a ≤ 15) × ReadFunction f × (1 ≤ limit) × (limit ≤ 512) × (limit ≤ length buffer.old) × (tries ≤ 4096) }
     ensures answer { result ≡ transfer_of (repeat_of memory.old n a f limit tries) }
     ensures memory { memory.new ≡ (repeat_of memory.old n a f limit tries).memory }
     ensures buffer { buffer.new ≡ buffer_after (repeat_of memory.old n a f limit tries) buffer.old }
 {
     let span = dataway::accepted(memory, n, f);
     let mut words: u32 = 0;
-    let mut cycles: u32 = 0;
-    while cycles < tries {
+    for cycles in 1..=tries {
         let reply = dataway::cycle(memory, span, n, a, f);
-        cycles += 1;
         if reply.x != 1 {
             return Transfer {
                 end: NOT_ACCEPTED,
@@ -51,6 +49,6 @@ pub fn repeat(
     Transfer {
         end: CUT_SHORT,
         words,
-        cycles,
+        cycles: tries,
     }
 }

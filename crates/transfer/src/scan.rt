@@ -7,7 +7,7 @@ ghost use Rattle.transfer.specs.Scan.{scan_of};
 
 use crate::{CUT_SHORT, LAST_SUBADDRESS, LIMIT_REACHED, Transfer};
 
-// The loop over stations and subaddresses is left from inside when the limit is reached.
+// The loop over stations and subaddresses is left from inside when the limit is reached. Words are counted beside it, since Q = 0 stores none.
 pub fn scan(
     memory: &mut [u32],
     buffer: &mut [u32],
@@ -18,7 +18,7 @@ pub fn scan(
     limit: u32,
 ) -> Transfer
     requires fit_crate { FitCrate memory.old }
-    requires le_n { (1 ≤ n) × (n ≤ to) × (to ≤ 23) × (a ≤ 15) × ReadFunction f × (1 ≤ limit) × (limit ≤ 512) × (limit ≤ length buffer.old) }
+    requires fields { (1 ≤ n) × (n ≤ to) × (to ≤ 23) × (a ≤ 15) × ReadFunction f × (1 ≤ limit) × (limit ≤ 512) × (limit ≤ length buffer.old) }
     ensures answer { result ≡ transfer_of (scan_of memory.old n a f to limit) }
     ensures memory { memory.new ≡ (scan_of memory.old n a f to limit).memory }
     ensures buffer { buffer.new ≡ buffer_after (scan_of memory.old n a f to limit) buffer.old }
@@ -26,11 +26,10 @@ pub fn scan(
     let mut end = CUT_SHORT;
     let mut words: u32 = 0;
     let mut cycles: u32 = 0;
-    let mut station = n;
-    let mut subaddress = a;
-    'stations: while station <= to {
+    let mut first = a;
+    'stations: for station in n..=to {
         let span = dataway::accepted(memory, station, f);
-        loop {
+        for subaddress in first..=LAST_SUBADDRESS {
             let reply = dataway::cycle(memory, span, station, subaddress, f);
             cycles += 1;
             if reply.q != 1 {
@@ -42,13 +41,8 @@ pub fn scan(
                 end = LIMIT_REACHED;
                 break 'stations;
             }
-            if subaddress == LAST_SUBADDRESS {
-                break;
-            }
-            subaddress += 1;
         }
-        station += 1;
-        subaddress = 0;
+        first = 0;
     }
     Transfer { end, words, cycles }
 }

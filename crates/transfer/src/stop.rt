@@ -10,17 +10,15 @@ use crate::{CUT_SHORT, LIMIT_REACHED, NOT_ACCEPTED, Transfer};
 // The word that reaches the limit ends it with no further cycle; a cycle that gives X = 0 or Q = 0 is counted, and X comes first.
 pub fn stop(memory: &mut [u32], buffer: &mut [u32], n: u32, a: u32, f: u32, limit: u32) -> Transfer
     requires fit_crate { FitCrate memory.old }
-    requires le_n { (1 ≤ n) × (n ≤ 23) × (a ≤ 15) × ReadFunction f × (limit ≤ 512) × (limit ≤ length buffer.old) }
+    requires fields { (1 ≤ n) × (n ≤ 23) × (a ≤ 15) × ReadFunction f × (limit ≤ 512) × (limit ≤ length buffer.old) }
     ensures answer { result ≡ transfer_of (stop_of memory.old n a f limit) }
     ensures memory { memory.new ≡ (stop_of memory.old n a f limit).memory }
     ensures buffer { buffer.new ≡ buffer_after (stop_of memory.old n a f limit) buffer.old }
 {
     let span = dataway::accepted(memory, n, f);
-    let mut words: u32 = 0;
-    let mut cycles: u32 = 0;
-    while words < limit {
+    for words in 0..limit {
+        let cycles = words + 1;
         let reply = dataway::cycle(memory, span, n, a, f);
-        cycles += 1;
         if reply.x != 1 {
             return Transfer {
                 end: NOT_ACCEPTED,
@@ -36,11 +34,10 @@ pub fn stop(memory: &mut [u32], buffer: &mut [u32], n: u32, a: u32, f: u32, limi
             };
         }
         buffer[words as usize] = reply.r;
-        words += 1;
     }
     Transfer {
         end: LIMIT_REACHED,
-        words,
-        cycles,
+        words: limit,
+        cycles: limit,
     }
 }

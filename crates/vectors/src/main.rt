@@ -13,7 +13,7 @@ fn rehearse<R: Files + Print>(rt: &R, err: &impl Print, crate_path: &[u8], run_p
     let mut line = [0u8; 81];
     let mut memory = [0u32; 768];
     let mut out = [0u8; 65536];
-    shell::rehearse(
+    let _ = shell::rehearse(
         rt,
         err,
         crate_path,
@@ -27,8 +27,8 @@ fn rehearse<R: Files + Print>(rt: &R, err: &impl Print, crate_path: &[u8], run_p
 
 // Runs scenario k.
 fn scenario<R: Files + Print>(rt: &R, err: &impl Print, k: u8) {
-    let tens = 48 + k / 10 % 10;
-    let ones = 48 + k % 10;
+    let tens = b'0' + k / 10 % 10;
+    let ones = b'0' + k % 10;
     let crate_path = [tens, ones, b'.', b'c', b'r', b'a', b't', b'e'];
     let run_path = [tens, ones, b'.', b'r', b'u', b'n'];
     let head = [b'c', b'a', b's', b'e', b'=', tens, ones, b'\n'];
@@ -41,7 +41,7 @@ fn without_arguments<R: Files + Env + Print>(rt: &R, err: &impl Print) {
     let _ = rt.write_all(b"case=usual\n");
     let mut crate_path = [0u8; 4096];
     let mut run_path = [0u8; 4096];
-    let files = shell::files_named(
+    if let Some(files) = shell::files_named(
         rt,
         err,
         b"crate.txt",
@@ -49,11 +49,13 @@ fn without_arguments<R: Files + Env + Print>(rt: &R, err: &impl Print) {
         b"usage: vectors    takes no argument\n",
         &mut crate_path,
         &mut run_path,
-    );
-    if files.ok {
-        let m = files.first;
-        let n = files.second;
-        rehearse(rt, err, &crate_path[..m], &run_path[..n]);
+    ) {
+        rehearse(
+            rt,
+            err,
+            &crate_path[..files.first],
+            &run_path[..files.second],
+        );
     }
 }
 

@@ -16,9 +16,6 @@ use Rattle.dataway.specs.Crate.{is_fit_crate, FitCrate}
 use Rattle.step.specs.Verdict.{is_fine, verdict_of}
 use Rattle.step.specs.Touches.{reach_of}
 use Rattle.step.specs.declared.Refusal.TheVariants.{UnfitCrate}
-use Rattle.step.specs.declared.Reading.{Reading}
-use Rattle.step.specs.declared.Verdict.{Verdict}
-use Rattle.step.specs.declared.Verdict.TheVariants.{Fine, Refuse}
 use Rattle.controller.specs.Steps.{Order, order, Out, Performed, refused, reading_done, done_of, step_of, leaves, gives, touches}
 use Rattle.controller.specs.Regrouping.{beyond}
 use Rattle.controller.proofs.Sentences.{refused-reading}
@@ -31,6 +28,8 @@ use Rattle.verdict.specs.Counted.{lent, counted, touches_lent, refusal_of, count
 use Rattle.verdict.specs.Compared.{Lawful, LentAlike, Promise}
 use Rattle.verdict.proofs.Lawful.{Uniform, suffices, exact}
 use Rattle.verdict.proofs.CountedLaws.{lent-milder, counted-fine, counted-refused, counted-again, refused-equal, steps-sorted}
+use Rattle.std.specs.Prelude.{Ok, Err}
+use Rattle.step.specs.Results.{Reading, Verdict}
 
 -- ---- a step and what it counts as
 done-counted : (m : List ℕ) (r : Reading) (b : List ℕ) → length b ≡ 512 → done_of m (order (counted r) b) ≡ done_of m (order r b)
@@ -38,8 +37,8 @@ unfolding done_of
 done-counted m r b l = go (verdict_of r lent) refl
   where
     go : (v : Verdict) → verdict_of r lent ≡ v → reading_done m (counted r) b ≡ reading_done m r b
-    go Fine e = ap (λ (t : Reading). reading_done m t b) (counted-fine r e)
-    go (Refuse q) e = ap (λ (t : Reading). reading_done m t b) (counted-refused r q e) ∙ sym (refused-reading m r b q ((lent-milder r b l).0 q e))
+    go (Ok _) e = ap (λ (t : Reading). reading_done m t b) (counted-fine r e)
+    go (Err q) e = ap (λ (t : Reading). reading_done m t b) (counted-refused r q e) ∙ sym (refused-reading m r b q ((lent-milder r b l).0 q e))
 
 step-counted : (m : List ℕ) (r : Reading) (b : List ℕ) → length b ≡ 512 → step_of m (order (counted r) b) ≡ step_of m (order r b)
 unfolding step_of

@@ -1,5 +1,5 @@
--- Compared, then run. Where the comparison says Same, the promise speaks of what each step gives, and a step's words stand among those of its list. A
--- rearrangement of the steps themselves is one of what they count as, so where the comparison says Parted there is none.
+-- Compared, then run. Where the lists part nowhere, the promise speaks of what each step gives, and a step's words stand among those of its list. A
+-- rearrangement of the steps themselves is one of what they count as, so where they part there is none.
 -- Assumes nothing.
 use mathlib.Core.Path.{◌≡◌, refl, sym, ap, ◌∙◌}
 use mathlib.Core.Bool.{true, false≢true, and-eq-true_iff}
@@ -13,10 +13,6 @@ use Rattle.regroup.proofs.Whole.{length-outs, as_long, step-at, get_or-map-in}
 use Rattle.step.specs.Verdict.{is_fine, are_narrow, verdict_of}
 use Rattle.step.proofs.Lengths.{narrow-take, narrow-drop, judged-narrow}
 use Rattle.step.specs.Touches.{reach_of, touches_of}
-use Rattle.step.specs.declared.Reading.{Reading}
-use Rattle.step.specs.declared.Reading.TheVariants.{Good, Bad}
-use Rattle.step.specs.declared.Verdict.{Verdict}
-use Rattle.step.specs.declared.Verdict.TheVariants.{Fine, Refuse}
 use Rattle.controller.specs.Steps.{Order, Out, leaves, gives, touches}
 use Rattle.controller.specs.Regrouping.{beyond}
 use Rattle.lists.specs.Words.{reading_of, part, orders_of}
@@ -28,12 +24,13 @@ use Rattle.rehearsal.proofs.PairLaws.{Went, list-went}
 use Rattle.verdict.specs.Counted.{lent, counted, touches_lent, count, step_at, steps, past}
 use Rattle.verdict.specs.Compared.{Lawful, LentAlike, Promise, Compared}
 use Rattle.verdict.specs.Runs.{SameRuns, GoodWords, ComparedRuns, EachLent}
-use Rattle.verdict.specs.declared.Comparison.{Comparison}
-use Rattle.verdict.specs.declared.Comparison.TheVariants.{Same, Parted}
+use Rattle.verdict.specs.declared.Parted.{Parted}
 use Rattle.verdict.proofs.CountedLaws.{counted-fine, counted-refused}
 use Rattle.verdict.proofs.Promises.{firsts-length, firsts_at}
+use Rattle.std.specs.Prelude.{Ok, Err, Option, None, Some}
+use Rattle.step.specs.Results.{Reading, Verdict}
 
--- ---- Same: two lists that end alike, run as words
+-- ---- None: two lists that end alike, run as words
 module _ (us ws p : List ℕ) (r : Lawful us ws p) where
   long-p : length p ≡ count ws
   long-p = sym (as_long touches_lent past (steps us) (steps ws) p r) ∙ firsts-length (step_at ws) (count ws)
@@ -97,17 +94,17 @@ same_runs us ws q = (
       runs-alike us ws q.0 q.1 m a1 b1 a2 b2 h.0 h.1 (q.2 m b1 b2 w1.fit h) _ _ _ _ _ _ _ _ w1 w2,
 )
 
--- ---- Parted: a rearrangement of the steps themselves is one of what they count as
+-- ---- Some: a rearrangement of the steps themselves is one of what they count as
 -- what a step counts as touches no more than the step
 counted-touches : (r : Reading) (b : List ℕ) (n : ℕ) → (is_fine (verdict_of r lent) ≡ true → is_fine (verdict_of r b) ≡ true)
     → touches_lent (counted r) n ≡ true → touches_of r b n ≡ true
 counted-touches r b n l h = go (verdict_of r lent) refl
   where
     go : (v : Verdict) → verdict_of r lent ≡ v → touches_of r b n ≡ true
-    go Fine e =
+    go (Ok tt) e =
         let u = (and-eq-true_iff (is_fine (verdict_of r lent)) (reach_of r n)).0 (ap (λ (t : Reading). touches_of t lent n) (sym (counted-fine r e)) ∙ h) in
         (and-eq-true_iff (is_fine (verdict_of r b)) (reach_of r n)).1 (l u.0, u.1)
-    go (Refuse q) e = absurd (false≢true (ap (λ (t : Reading). touches_of t lent n) (sym (counted-refused r q e)) ∙ h))
+    go (Err q) e = absurd (false≢true (ap (λ (t : Reading). touches_of t lent n) (sym (counted-refused r q e)) ∙ h))
 
 module _ (us ws b1 b2 p : List ℕ) (good : GoodWords ws b2) (raw : RearrangedWords (orders_of us b1 (count us)) (orders_of ws b2 (count ws)) p) where
   long-us : length (orders_of us b1 (count us)) ≡ count us
@@ -158,21 +155,21 @@ unfolding lent
 narrow_good ws b l n k h f = go (reading_of (part 6 ws k)) f
   where
     go : (r : Reading) → is_fine (verdict_of r lent) ≡ true → is_fine (verdict_of r (part 512 b k)) ≡ true
-    go (Good s) f =
+    go (Ok s) f =
         ap is_fine (judged-narrow s (part 512 b k) 512 (part-long 512 b k (omega (arith, l, h))) (narrow-take 512 (drop (512 * k) b) (narrow-drop (512 * k) b n))) ∙ f
-    go (Bad q) f = f
+    go (Err q) f = f
 
 -- ---- COMPARED, THEN RUN
-pub compared-runs : (us ws : List ℕ) (c : Comparison) → Compared us ws c → ComparedRuns us ws c
-compared-runs us ws Same h = same_runs us ws h.1
-compared-runs us ws (Parted k i j) h = λ b1 b2 p good raw. h.3 p (rearranged-lawful us ws b1 b2 p good raw)
+pub compared-runs : (us ws : List ℕ) (c : Option Parted) → Compared us ws c → ComparedRuns us ws c
+compared-runs us ws None h = same_runs us ws h.1
+compared-runs us ws (Some d) h = λ b1 b2 p good raw. h.3 p (rearranged-lawful us ws b1 b2 p good raw)
 
 -- The same in the form of the contracts: `Compared` is what `compare` ensures, the two equations are what `run_list` and `run_pair` ensure. So a caller that
 -- compares two lists and then runs both, on equal crates and with the same words w in each step's buffer, cites this law with the calls' `ensures`.
-pub calls-alike : (us ws m n a1 b1 a2 b2 m1 z1 y1 m2 z2 y2 w : List ℕ) (v1 v2 : Verdict) → Compared us ws Same
+pub calls-alike : (us ws m n a1 b1 a2 b2 m1 z1 y1 m2 z2 y2 w : List ℕ) (v1 v2 : Verdict) → Compared us ws None
     → list_of m (count us) us a1 b1 ≡ record { verdict = v1; memory = m1; answers = z1; buffers = y1 }
     → list_of n (count ws) ws a2 b2 ≡ record { verdict = v2; memory = m2; answers = z2; buffers = y2 }
-    → n ≡ m → v1 ≡ Fine → v2 ≡ Fine → EachLent us b1 w → EachLent ws b2 w
+    → n ≡ m → v1 ≡ Ok tt → v2 ≡ Ok tt → EachLent us b1 w → EachLent ws b2 w
     → (p : List ℕ) × Lawful us ws p × AlikeWords (record { verdict = v1; memory = m1; answers = z1; buffers = y1 }) (record { verdict = v2; memory = m2; answers = z2; buffers = y2 }) (count ws) p
 calls-alike us ws m n a1 b1 a2 b2 m1 z1 y1 m2 z2 y2 w v1 v2 c e1 e2 en f1 f2 x y =
     let q : Promise us ws = c.1 in

@@ -7,13 +7,13 @@ use Prim.Native.Nat.{ℕ, suc, ◌+◌, ◌≤◌, ◌<◌}
 use native.Mathlib.Decide.{dec_lt}
 use native.Mathlib.Omega.{arith}
 use lib.ListN.{length, length-append}
-use Rattle.step.specs.declared.Reading.{Reading}
 use Rattle.verdict.specs.Counted.{count, step_at, seen_to}
 use Rattle.verdict.specs.Compared.{Parts, Watched, Stands, Compared}
-use Rattle.verdict.specs.declared.Comparison.{Comparison}
-use Rattle.verdict.specs.declared.Comparison.TheVariants.{Same, Parted}
+use Rattle.verdict.specs.declared.Parted.{Parted}
 use Rattle.verdict.proofs.Trace.{head-is}
 use Rattle.verdict.proofs.Walks.{FromPlace, from_place, rest_of, cancel, parts-differ}
+use Rattle.step.specs.Results.{Reading}
+use Rattle.std.specs.Prelude.{Option, None, Some}
 
 -- how many steps watch k sees before place i
 abbrev many_to : List ℕ → ℕ → ℕ → ℕ
@@ -71,7 +71,10 @@ module _ (us ws : List ℕ) (k : ℕ) where
       go (no a) (yes b) = absurd (not-later-second i j' j q p b)
       go (no a) (no b) = omega (arith, a, b)
 
-same-parting : (us ws : List ℕ) (k i j k' i' j' : ℕ) → k ≡ k' → Parts us ws k i j → Parts us ws k' i' j' → Parted k i j ≡ Parted k' i' j'
+abbrev parted : ℕ → ℕ → ℕ → Option Parted
+parted k i j = Some (record { watch = k; first = i; second = j })
+
+same-parting : (us ws : List ℕ) (k i j k' i' j' : ℕ) → k ≡ k' → Parts us ws k i j → Parts us ws k' i' j' → parted k i j ≡ parted k' i' j'
 same-parting us ws k i j k' i' j' e p p' =
     let q : Parts us ws k i' j' = subst (λ (n : ℕ). Parts us ws n i' j') (sym e) p' in
     let ei : i ≡ i' = same_first us ws k i j i' j' p q in
@@ -79,24 +82,25 @@ same-parting us ws k i j k' i' j' e p p' =
     rw (e, ei, ej)
 
 -- `compare`
-pub sole : (us ws : List ℕ) (v w : Comparison) → Compared us ws v → Compared us ws w → v ≡ w
-sole us ws Same Same a b = refl
-sole us ws Same (Parted k i j) a b = absurd (parts-differ us ws k i j b.2 (a.0 k b.0))
-sole us ws (Parted k i j) Same a b = absurd (parts-differ us ws k i j a.2 (b.0 k a.0))
-sole us ws (Parted k i j) (Parted k' i' j') a b = go (dec_lt k k') (dec_lt k' k)
+pub sole : (us ws : List ℕ) (v w : Option Parted) → Compared us ws v → Compared us ws w → v ≡ w
+sole us ws None None a b = refl
+sole us ws None (Some d) a b = absurd (parts-differ us ws d.watch d.first d.second b.2 (a.0 d.watch b.0))
+sole us ws (Some d) None a b = absurd (parts-differ us ws d.watch d.first d.second a.2 (b.0 d.watch a.0))
+sole us ws (Some d) (Some e) a b = go (dec_lt d.watch e.watch) (dec_lt e.watch d.watch)
   where
-    go : Dec (k < k') → Dec (k' < k) → Parted k i j ≡ Parted k' i' j'
-    go (yes h) m = absurd (parts-differ us ws k i j a.2 (b.1 k a.0.0 h))
-    go (no h) (yes m) = absurd (parts-differ us ws k' i' j' b.2 (a.1 k' b.0.0 m))
-    go (no h) (no m) = same-parting us ws k i j k' i' j' (omega (arith, h, m)) a.2 b.2
+    go : Dec (d.watch < e.watch) → Dec (e.watch < d.watch) → Some d ≡ Some e
+    go (yes h) m = absurd (parts-differ us ws d.watch d.first d.second a.2 (b.1 d.watch a.0.0 h))
+    go (no h) (yes m) = absurd (parts-differ us ws e.watch e.first e.second b.2 (a.1 e.watch b.0.0 m))
+    go (no h) (no m) = same-parting us ws d.watch d.first d.second e.watch e.first e.second (omega (arith, h, m)) a.2 b.2
 
 -- `watch`
-pub sole-watched : (us ws : List ℕ) (k : ℕ) (v w : Comparison) → Watched us ws k v → Watched us ws k w → v ≡ w
-sole-watched us ws k Same Same a b = refl
-sole-watched us ws k Same (Parted n i j) a b = absurd (parts-differ us ws k i j b.2 (a b.0))
-sole-watched us ws k (Parted n i j) Same a b = absurd (parts-differ us ws k i j a.2 (b a.0))
-sole-watched us ws k (Parted n i j) (Parted n' i' j') a b =
-    ap (λ (x : ℕ). Parted x i j) a.1 ∙ same-parting us ws k i j k i' j' refl a.2 b.2 ∙ ap (λ (x : ℕ). Parted x i' j') (sym b.1)
+pub sole-watched : (us ws : List ℕ) (k : ℕ) (v w : Option Parted) → Watched us ws k v → Watched us ws k w → v ≡ w
+sole-watched us ws k None None a b = refl
+sole-watched us ws k None (Some d) a b = absurd (parts-differ us ws k d.first d.second b.2 (a b.0))
+sole-watched us ws k (Some d) None a b = absurd (parts-differ us ws k d.first d.second a.2 (b a.0))
+sole-watched us ws k (Some d) (Some e) a b =
+    ap (λ (x : ℕ). parted x d.first d.second) a.1 ∙ same-parting us ws k d.first d.second k e.first e.second refl a.2 b.2
+    ∙ ap (λ (x : ℕ). parted x e.first e.second) (sym b.1)
 
 -- `find`
 pub sole-stands : (us : List ℕ) (i : ℕ) (ws : List ℕ) (from r r' : ℕ) → Stands us i ws from r → Stands us i ws from r' → r ≡ r'

@@ -1,25 +1,32 @@
 -- The loops of the code: the next step that a watch sees, the two cursors of a watch, the watches one after the other, and where a step stands.
 -- Assumes nothing.
-use mathlib.Core.Path.{◌≡◌, refl, sym, ap, ◌∙◌, subst}
+use mathlib.Core.Path.{◌≡◌, refl, sym, ap, ap₂, ◌∙◌, subst}
 use mathlib.Core.Bool.{Bool, true, false, cond}
 use mathlib.Core.Logic.{◌⊎◌, inl, inr}
 use mathlib.Core.List.{List, [], ◌∷◌, ◌++◌, append-nil, append_assoc}
-use Prim.Native.Nat.{ℕ, zero, suc, ◌+◌, ◌≤◌, ◌<◌}
+use Prim.Native.Nat.{ℕ, zero, suc, ◌+◌, ◌-◌, ◌≤◌, ◌<◌}
 use native.Mathlib.Nat.{le_of_suc-le-suc, eq-or-lt_of_le}
 use native.Mathlib.Numerals.{add-one}
 use native.Mathlib.Decide.{dec_lt}
 use native.Mathlib.Omega.{arith}
 use lib.ListN.{length, drop, length-append}
 use lib.Seq.{drop_at}
-use Rattle.step.specs.declared.Reading.{Reading}
-use Rattle.step.specs.declared.Reading.TheVariants.{Good, Bad}
 use Rattle.verdict.specs.Watches.{only, last_watch, Watch}
 use Rattle.verdict.specs.Counted.{see, count, step_at, firsts, past, seen_to, seen, is_refused, refused_to}
 use Rattle.verdict.specs.Compared.{Next, Parts, Watched, Stands, Compared}
-use Rattle.verdict.specs.declared.Comparison.{Comparison}
-use Rattle.verdict.specs.declared.Comparison.TheVariants.{Same, Parted}
+use Rattle.verdict.specs.declared.Parted.{Parted}
 use Rattle.verdict.proofs.Trace.{only-in, only_out, head-is}
 use Rattle.verdict.proofs.Promises.{promised, seen_alike}
+use denote.Param.Members.{Mut, Called}
+use Rattle.std.specs.Iterator.Runs.{Run, SomeRun, ItemsCountUp, CallKeepsClosure, AllItemsGive, IsFirstToGive}
+use Rattle.std.specs.declared.ops.RangeInclusive.{RangeInclusive}
+use Rattle.std.specs.Range.{range_inclusive_start, range_inclusive_end, range_inclusive_exhausted}
+use Rattle.std.proofs.iter.runs.Sources.{nat_range_inclusive_steps, inclusive_listed}
+use Rattle.std.specs.List.{filter, range_with_len}
+use Rattle.std.specs.Option.{unwrap_or}
+use Rattle.std.proofs.lemmas.List.Elements.{filter-append}
+use Rattle.std.specs.Prelude.{Ok, Err, is_err, Option, None, Some, MatchOption, IfSome, IsSomeAnd, IsTrue, option_map}
+use Rattle.step.specs.Results.{Reading}
 
 -- ---- a list's first steps
 
@@ -48,47 +55,56 @@ firsts-out ws k i t =
 
 -- ---- how many are refused
 
--- one step more
-pub refused-more : (ws : List ℕ) (i : ℕ) → refused_to ws (i + 1) ≡ refused_to ws i + length (only is_refused (step_at ws i ∷ []))
+refused-more : (ws : List ℕ) (i : ℕ) → refused_to ws (suc i) ≡ refused_to ws i + length (only is_refused (step_at ws i ∷ []))
 refused-more ws i =
-    ap length (ap (only is_refused) (firsts_more ws i) ∙ only-append is_refused (firsts (step_at ws) i) (step_at ws i ∷ []))
+    ap (refused_to ws) (sym (add-one i)) ∙ ap length (ap (only is_refused) (firsts_more ws i) ∙ only-append is_refused (firsts (step_at ws) i) (step_at ws i ∷ []))
     ∙ length-append (only is_refused (firsts (step_at ws) i)) (only is_refused (step_at ws i ∷ []))
 
-pub refused_none : (ws : List ℕ) → refused_to ws 0 ≡ 0
-unfolding firsts
-refused_none ws = refl
-
 one-few : (r : Reading) → length (only is_refused (r ∷ [])) ≤ 1
-one-few (Good s) = omega arith
-one-few (Bad q) = omega arith
+one-few (Ok s) = omega arith
+one-few (Err q) = omega arith
 
 -- no more than there are steps
 pub refused-few : (ws : List ℕ) (i : ℕ) → refused_to ws i ≤ i
-refused-few ws zero = omega (arith, refused_none ws)
-refused-few ws (suc i) =
-    omega (arith, ap (refused_to ws) (add-one i), refused-more ws i, refused-few ws i, one-few (step_at ws i))
+unfolding firsts
+refused-few ws zero = omega arith
+refused-few ws (suc i) = omega (arith, refused-more ws i, refused-few ws i, one-few (step_at ws i))
+
+places-more : (a n m : ℕ) → a + n ≡ m → range_with_len a (suc n) ≡ range_with_len a n ++ (m ∷ [])
+places-more a zero m e = let f : a ≡ m = omega (arith, e) in ap (λ (k : ℕ). range_with_len k 1) f
+places-more a (suc n) m e = ap (λ (l : List ℕ). a ∷ l) (places-more (a + 1) n m (omega (arith, e)))
+
+-- the places of the refused among the first n steps
+pub refused_places : (ws : List ℕ) (n : ℕ) → length (filter (λ i. is_err (step_at ws i)) (range_with_len 0 n)) ≡ refused_to ws n
+unfolding firsts
+refused_places ws zero = refl
+refused_places ws (suc n) =
+    ap length (ap (filter (λ i. is_err (step_at ws i))) (places-more 0 n n (omega arith)) ∙ filter-append (λ i. is_err (step_at ws i)) (range_with_len 0 n) (n ∷ []))
+    ∙ length-append (filter (λ i. is_err (step_at ws i)) (range_with_len 0 n)) (filter (λ i. is_err (step_at ws i)) (n ∷ []))
+    ∙ ap₂ (λ (a b : ℕ). a + b) (refused_places ws n) (one (step_at ws n) n) ∙ sym (refused-more ws n)
+  where
+    one : (r : Reading) (n : ℕ) → length (cond (is_err r) (n ∷ []) []) ≡ length (only is_refused (r ∷ []))
+    one (Ok s) n = refl
+    one (Err q) n = refl
 
 -- ---- the next step that a watch sees
 
-pub record Looking (ws : List ℕ) (k from i : ℕ) : Type 0 where
-  pub low : from ≤ i
-  pub high : i ≤ count ws
-  pub skips : seen_to k ws i ≡ seen_to k ws from
+-- past steps that the watch does not see, it has seen no more
+skipped : (ws : List ℕ) (k from n : ℕ) → from ≤ n → ((i : ℕ) → from ≤ i → i < n → see k (step_at ws i) ≡ false) → seen_to k ws n ≡ seen_to k ws from
+skipped ws k from zero h none = let e : ◌≡◌ {A = ℕ} 0 from = omega (arith, h) in ap (λ (n : ℕ). seen_to k ws n) e
+skipped ws k from (suc n) h none = go (eq-or-lt_of_le h) (λ l. skipped ws k from n l (λ i a b. none i a (omega (arith, b))))
+  where
+    go : (from ≡ suc n) ⊎ (from < suc n) → (from ≤ n → seen_to k ws n ≡ seen_to k ws from) → seen_to k ws (suc n) ≡ seen_to k ws from
+    go (inl e) ih = ap (λ (n : ℕ). seen_to k ws n) (sym e)
+    go (inr l) ih =
+        ap (λ (n : ℕ). seen_to k ws n) (sym (add-one n)) ∙ firsts-out ws k n (none n (le_of_suc-le-suc l) (omega arith)) ∙ ih (le_of_suc-le-suc l)
 
-pub looking-start : (ws : List ℕ) (k from : ℕ) → from ≤ count ws → Looking ws k from from
-looking-start ws k from h = record { low = omega arith; high = h; skips = refl }
-
-pub looking-more : (ws : List ℕ) (k from i : ℕ) (r : Bool) → i < count ws → r ≡ see k (step_at ws i) → r ≡ false → Looking ws k from i
-    → Looking ws k from (i + 1)
-looking-more ws k from i r h e f s = record { low = omega (arith, s.low); high = omega (arith, h); skips = firsts-out ws k i (sym e ∙ f) ∙ s.skips }
-
-pub looking-found : (ws : List ℕ) (k from i : ℕ) (r : Bool) → r ≡ see k (step_at ws i) → r ≡ true → Looking ws k from i → Next ws k from i
-looking-found ws k from i r e t s = record { low = s.low; high = s.high; skips = s.skips; here = λ h. sym e ∙ t }
-
-pub looking-end : (ws : List ℕ) (k from i : ℕ) → count ws ≤ i → Looking ws k from i → Next ws k from (count ws)
-looking-end ws k from i h s =
-    subst (λ (n : ℕ). Next ws k from n) {x = i} (omega (arith, h, s.high))
-    (record { low = s.low; high = s.high; skips = s.skips; here = λ l. absurd (omega (arith, h, l)) })
+pub next_found : (ws : List ℕ) (k from : ℕ) (r : Option ℕ) → from ≤ count ws
+    → MatchOption r ((i : ℕ) → from ≤ i → i < count ws → see k (step_at ws i) ≡ false)
+    (λ n. (from ≤ n) × (n < count ws) × (see k (step_at ws n) ≡ true) × ((i : ℕ) → from ≤ i → i < n → see k (step_at ws i) ≡ false))
+    → Next ws k from (unwrap_or r (count ws))
+next_found ws k from None l h = record { low = l; high = omega arith; skips = skipped ws k from (count ws) l h; here = λ b. absurd (omega (arith, b)) }
+next_found ws k from (Some n) l h = record { low = h.0; high = omega (arith, h.1); skips = skipped ws k from n h.0 h.3; here = λ b. h.2 }
 
 -- ---- the two cursors of a watch
 
@@ -112,21 +128,6 @@ module _ (us ws : List ℕ) (k i j x y : ℕ) (s : Walking us ws k i j) (a : Nex
     before =
         firsts-in us k x (a.here hx) ∙ ap (λ l. l ++ (step_at us x ∷ [])) so_far
         ∙ ap (λ t. seen_to k ws y ++ (t ∷ [])) e ∙ sym (firsts-in ws k y (b.here hy));
-  }
-
-  pub walking-same : x ≡ count us → y ≡ count ws → seen k us ≡ seen k ws
-  walking-same ex ey = ap (λ (n : ℕ). seen_to k us n) (sym ex) ∙ so_far ∙ ap (λ (n : ℕ). seen_to k ws n) ey
-
-  pub walking-parts : (x < count us) ⊎ (y < count ws) → (x < count us → y < count ws → step_at us x ≡ step_at ws y → ⊥)
-      → Parts us ws k x y
-  walking-parts o e = record {
-    first = a.high;
-    second = b.high;
-    before = so_far;
-    seen_first = a.here;
-    seen-second = b.here;
-    one = o;
-    apart = e;
   }
 
 -- ---- where lists part, they part for good
@@ -196,71 +197,83 @@ parts-differ us ws k i j p h = go (dec_lt i (count us)) (dec_lt j (count ws))
 abbrev pub Below : List ℕ → List ℕ → ℕ → Type 0
 Below us ws k = (n : ℕ) → 1 ≤ n → n < k → seen n us ≡ seen n ws
 
-pub compared_same : (us ws : List ℕ) (k : ℕ) → last_watch < k → Below us ws k → Compared us ws Same
-compared_same us ws k h all = (alike, promised us ws alike)
-  where
-    alike : (n : ℕ) → Watch n → seen n us ≡ seen n ws
-    alike n b = all n b.0 (omega (arith, b.1, h))
+-- what a run of calls over the numbers from a first to a last says of each of them
+module _ (p : Run nat_range_inclusive_steps) (fresh : range_inclusive_exhausted p.from ≡ false) where
+  abbrev low : ℕ
+  low = range_inclusive_start p.from
 
-pub compared-parted : (us ws : List ℕ) (k n i j : ℕ) (v : Comparison) → Below us ws k → v ≡ Parted n i j → Watched us ws k v → Compared us ws (Parted n i j)
-compared-parted us ws k n i j v all e a =
-    let q : Watch k × (n ≡ k) × Parts us ws k i j = subst (λ (v : Comparison). Watched us ws k v) e a in
-    subst (λ (m : ℕ). Compared us ws (Parted m i j)) (sym q.1)
-    (q.0, all, q.2, λ p r. parts-differ us ws k i j q.2 (seen_alike us ws p r k q.0))
+  abbrev high : ℕ
+  high = range_inclusive_end p.from
 
-pub below_more : (us ws : List ℕ) (k : ℕ) (v : Comparison) → Watch k → Below us ws k → v ≡ Same → Watched us ws k v → Below us ws (k + 1)
-below_more us ws k v watch all e a n l h = go (dec_lt n k)
-  where
-    here : Watch k → seen k us ≡ seen k ws
-    here = subst (λ (v : Comparison). Watched us ws k v) e a
+  unmapped : (o : Option ℕ) (n : ℕ) → option_map (λ y. y) o ≡ Some n → o ≡ Some n
+  unmapped None n e = cc
+  unmapped (Some x) n e = e
 
-    go : Dec (n < k) → seen n us ≡ seen n ws
-    go (yes b) = all n l b
-    go (no b) = subst (λ (m : ℕ). seen m us ≡ seen m ws) {x = k} (omega (arith, b, h)) (here watch)
+  counts : (p.len ≤ high + 1 - low) × (p.whole ≡ true → p.len ≡ high + 1 - low) × ((k : ℕ) → k < p.len → p.at k ≡ Some (low + k))
+  counts =
+      let h = inclusive_listed p p.seen in
+      let up : ItemsCountUp p h.0 h.1 = (h.4 fresh).0 in (
+        omega (arith, up.0, h.2, h.3),
+        λ w. omega (arith, up.1 w, h.2, h.3),
+        λ k l. unmapped (p.at k) (low + k) (up.3 k l ∙ ap (λ (a : ℕ). Some (a + k)) h.2),
+      )
+
+  one_number : (P : ℕ → Type 0) (k : ℕ) → k < p.len → IfSome (p.at k) P → P (low + k)
+  one_number P k l h = subst (λ (o : Option ℕ). IfSome o P) (counts.2 k l) h
+
+  that_number : (P : ℕ → Type 0) (k : ℕ) → k < p.len → IsSomeAnd (p.at k) P → P (low + k)
+  that_number P k l h = subst (λ (o : Option ℕ). IsSomeAnd o P) (counts.2 k l) h
+
+-- the first watch of those up to the last that parts
+module _ (us ws : List ℕ) {F : Type 0} (g : Mut F (ℕ × Unit {0}) (Option Parted)) (f : F) (keeps : CallKeepsClosure g f)
+    (says : (k : ℕ) (v : Option Parted) (q : F) → Called g f (k, tt) v q → Watched us ws k v) where
+  pub compared_found : (s : RangeInclusive ℕ) (v : Option Parted) → range_inclusive_start s ≡ 1 → range_inclusive_end s ≡ last_watch → range_inclusive_exhausted s ≡ false
+      → SomeRun nat_range_inclusive_steps s
+      (λ p. MatchOption v (IsTrue p.whole × AllItemsGive p g f None) (λ y. (i : ℕ) × (i < p.len) × (p.len ≡ i + 1) × IsFirstToGive p g f (Some y) None i))
+      → Compared us ws v
+  compared_found s v begins ends fresh (p, e, h) = go v h
+    where
+      new : range_inclusive_exhausted p.from ≡ false
+      new = ap range_inclusive_exhausted e ∙ fresh
+
+      first : range_inclusive_start p.from ≡ 1
+      first = ap range_inclusive_start e ∙ begins
+
+      last : range_inclusive_end p.from ≡ last_watch
+      last = ap range_inclusive_end e ∙ ends
+
+      -- the call at place k is at watch k + 1
+      said : (v : Option Parted) (k n : ℕ) → n ≡ k + 1 → Called g f (range_inclusive_start p.from + k, tt) v f → Watched us ws n v
+      said v k n i c =
+          subst (λ (x : ℕ). Watched us ws x v) {x = range_inclusive_start p.from + k} {y = n} (omega (arith, first, i)) (says (range_inclusive_start p.from + k) v f c)
+
+      go : (v : Option Parted)
+          → MatchOption v (IsTrue p.whole × AllItemsGive p g f None) (λ y. (i : ℕ) × (i < p.len) × (p.len ≡ i + 1) × IsFirstToGive p g f (Some y) None i)
+          → Compared us ws v
+      go None h = (alike, promised us ws alike)
+        where
+          alike : (n : ℕ) → Watch n → seen n us ≡ seen n ws
+          alike n b =
+              let long : p.len ≡ last_watch = omega (arith, (counts p new).1 h.0, first, last) in
+              let l : n - 1 < p.len = omega (arith, b.0, b.1, long) in
+              said None (n - 1) n (omega (arith, b.0)) (one_number p new (λ (x : ℕ). Called g f (x, tt) None f) (n - 1) l (h.1 keeps (n - 1))) b
+      go (Some d) (i, l, m, t) =
+          let hit : Watched us ws (i + 1) (Some d) = said (Some d) i (i + 1) refl (that_number p new (λ (x : ℕ). Called g f (x, tt) (Some d) f) i l (t keeps).0) in
+          let w : Watched us ws d.watch (Some d) = subst (λ (x : ℕ). Watched us ws x (Some d)) (sym hit.1) hit in (
+            w.0,
+            λ n a b.
+                let c : n - 1 < i = omega (arith, a, b, hit.1) in
+                said None (n - 1) n (omega (arith, a))
+                (that_number p new (λ (x : ℕ). Called g f (x, tt) None f) (n - 1) (omega (arith, c, l)) ((t keeps).1 (n - 1) c))
+                (a, omega (arith, b, w.0.1)),
+            w.2,
+            λ q r. parts-differ us ws d.watch d.first d.second w.2 (seen_alike us ws q r d.watch w.0),
+          )
 
 -- ---- where a step stands
-pub record Seeking (us : List ℕ) (i : ℕ) (ws : List ℕ) (from j : ℕ) : Type 0 where
-  pub low : from ≤ j
-  pub high : j ≤ count ws
-  pub before : (n : ℕ) → from ≤ n → n < j → step_at us i ≡ step_at ws n → ⊥
-
-pub seeking-start : (us : List ℕ) (i : ℕ) (ws : List ℕ) (from : ℕ) → from ≤ count ws → Seeking us i ws from from
-seeking-start us i ws from h = record { low = omega arith; high = h; before = λ n a b. absurd (omega (arith, a, b)) }
-
-module _ (us : List ℕ) (i : ℕ) (ws : List ℕ) (from j : ℕ) (s : Seeking us i ws from j) where
-  pub seeking-more : j < count ws → (step_at us i ≡ step_at ws j → ⊥) → Seeking us i ws from (j + 1)
-  seeking-more h e = record {
-    low = omega (arith, s.low);
-    high = omega (arith, h);
-    before = λ n a b. go n a b (dec_lt n j);
-  }
-    where
-      go : (n : ℕ) → from ≤ n → n < j + 1 → Dec (n < j) → step_at us i ≡ step_at ws n → ⊥
-      go n a b (yes l) = s.before n a l
-      go n a b (no l) = subst (λ (m : ℕ). step_at us i ≡ step_at ws m → ⊥) {x = j} {y = n} (omega (arith, b, l)) e
-
-  pub seeking-found : i < count us → step_at us i ≡ step_at ws j → Stands us i ws from j
-  seeking-found l e = record {
-    high = s.high;
-    here = λ h. (s.low, l, e);
-    before = λ n a b h. s.before n a b;
-  }
-
-  pub seeking-end : count ws ≤ j → Stands us i ws from (count ws)
-  seeking-end h = record {
-    high = omega arith;
-    here = λ l. absurd (omega (arith, l));
-    before = λ n a b l. s.before n a (omega (arith, b, h));
-  }
-
--- there is no step i, or the search starts past the end
-pub stands-past : (us : List ℕ) (i : ℕ) (ws : List ℕ) (from : ℕ) → (count us ≤ i) ⊎ (count ws ≤ from) → Stands us i ws from (count ws)
-stands-past us i ws from h = record {
-  high = omega arith;
-  here = λ l. absurd (omega (arith, l));
-  before = λ n a b l. absurd (none h n a b l);
-}
-  where
-    none : (count us ≤ i) ⊎ (count ws ≤ from) → (n : ℕ) → from ≤ n → n < count ws → i < count us → ⊥
-    none (inl g) n a b l = omega (arith, g, l)
-    none (inr g) n a b l = omega (arith, g, a, b)
+pub stands_found : (us : List ℕ) (i : ℕ) (ws : List ℕ) (from : ℕ) (r : Option ℕ) → i < count us
+    → MatchOption r ((j : ℕ) → from ≤ j → j < count ws → step_at us i ≡ step_at ws j → ⊥)
+    (λ n. (from ≤ n) × (n < count ws) × (step_at us i ≡ step_at ws n) × ((j : ℕ) → from ≤ j → j < n → step_at us i ≡ step_at ws j → ⊥))
+    → Stands us i ws from (unwrap_or r (count ws))
+stands_found us i ws from None l h = record { high = omega arith; here = λ b. absurd (omega (arith, b)); before = λ j a b c. h j a b }
+stands_found us i ws from (Some n) l h = record { high = omega (arith, h.1); here = λ b. (h.0, l, h.2); before = λ j a b c. h.3 j a b }

@@ -1,13 +1,12 @@
 -- What a comparison of two lists of steps says.
-use Rattle.std.specs.Prelude.{◌≡◌, true, ◌⊎◌, List, ℕ, ◌*◌, ◌≤◌, ◌<◌, length, get_or}
+use Rattle.std.specs.Prelude.{◌≡◌, true, ◌⊎◌, List, ℕ, ◌*◌, ◌≤◌, ◌<◌, length, get_or, Option, None, Some}
 use Rattle.regroup.specs.Lists.{Rearranged, Alike}
 use Rattle.dataway.specs.Crate.{FitCrate}
 use Rattle.controller.specs.Steps.{leaves, gives}
 use Rattle.lists.specs.Words.{part, orders_of}
 use Rattle.verdict.specs.Watches.{Watch}
 use Rattle.verdict.specs.Counted.{touches_lent, see, count, step_at, steps, past, seen_to, seen}
-use Rattle.verdict.specs.declared.Comparison.{Comparison}
-use Rattle.verdict.specs.declared.Comparison.TheVariants.{Same, Parted}
+use Rattle.verdict.specs.declared.Parted.{Parted}
 
 -- r is the first place from `from` on whose step watch k sees, or the number of steps
 pub record Next (ws : List ℕ) (k from r : ℕ) : Type 0 where
@@ -28,9 +27,9 @@ pub record Parts (us ws : List ℕ) (k i j : ℕ) : Type 0 where
   pub apart : i < count us → j < count ws → step_at us i ≡ step_at ws j → ⊥
 
 -- what watch k alone says; what is no watch sees nothing
-abbrev pub Watched : List ℕ → List ℕ → ℕ → Comparison → Type 0
-Watched us ws k Same = Watch k → seen k us ≡ seen k ws
-Watched us ws k (Parted n i j) = Watch k × (n ≡ k) × Parts us ws k i j
+abbrev pub Watched : List ℕ → List ℕ → ℕ → Option Parted → Type 0
+Watched us ws k None = Watch k → seen k us ≡ seen k ws
+Watched us ws k (Some d) = Watch k × (d.watch ≡ k) × Parts us ws k d.first d.second
 
 -- r is the first place from `from` on where the second list has step i of the first; where there is none, it is the second's number of steps
 pub record Stands (us : List ℕ) (i : ℕ) (ws : List ℕ) (from r : ℕ) : Type 0 where
@@ -53,9 +52,9 @@ Promise us ws =
     (p : List ℕ) × Lawful us ws p
     × ((m b1 b2 : List ℕ) → FitCrate m → LentAlike us b1 ws b2 p → Alike leaves gives m (orders_of us b1 (count us)) (orders_of ws b2 (count ws)) p)
 
--- Same: each watch sees the same in both lists, and the promise holds.
--- Parted: watch k is the first that does not, and parts at i and j; the second list is no rearrangement of the first.
-abbrev pub Compared : List ℕ → List ℕ → Comparison → Type 0
-Compared us ws Same = ((n : ℕ) → Watch n → seen n us ≡ seen n ws) × Promise us ws
-Compared us ws (Parted k i j) =
-    Watch k × ((n : ℕ) → 1 ≤ n → n < k → seen n us ≡ seen n ws) × Parts us ws k i j × ((p : List ℕ) → Lawful us ws p → ⊥)
+-- None: each watch sees the same in both lists, and the promise holds.
+-- Some: its watch is the first that does not, and parts at its places; the second list is no rearrangement of the first.
+abbrev pub Compared : List ℕ → List ℕ → Option Parted → Type 0
+Compared us ws None = ((n : ℕ) → Watch n → seen n us ≡ seen n ws) × Promise us ws
+Compared us ws (Some d) =
+    Watch d.watch × ((n : ℕ) → 1 ≤ n → n < d.watch → seen n us ≡ seen n ws) × Parts us ws d.watch d.first d.second × ((p : List ℕ) → Lawful us ws p → ⊥)

@@ -1,15 +1,12 @@
 -- A list of steps lent as words, six words a step, each step with a buffer of 512 words: what each step counts as where two lists are compared.
-use Rattle.std.specs.Prelude.{◌≡◌, Bool, true, false, List, [], ◌∷◌, ◌++◌, ℕ, zero, suc, ◌/◌, length, replicate}
+use Rattle.std.specs.Prelude.{◌≡◌, Bool, true, false, List, [], ◌∷◌, ◌++◌, ℕ, zero, suc, ◌/◌, length, replicate, Ok, Err}
 use Rattle.step.specs.Refusals.{verdict_number}
 use Rattle.step.specs.Touches.{touches_of}
 use Rattle.step.specs.Verdict.{verdict_of}
 use Rattle.step.specs.declared.Refusal.TheVariants.{Garbled}
-use Rattle.step.specs.declared.Reading.{Reading}
-use Rattle.step.specs.declared.Reading.TheVariants.{Good, Bad}
-use Rattle.step.specs.declared.Verdict.{Verdict}
-use Rattle.step.specs.declared.Verdict.TheVariants.{Fine, Refuse}
 use Rattle.lists.specs.Words.{reading_of, part}
 use Rattle.verdict.specs.Watches.{only, sees}
+use Rattle.step.specs.Results.{Reading, Verdict}
 
 -- A buffer of 512 words of 0. Of those as long it is judged best (`judged-zeros` of `step`): what is refused with it is refused with any, with the same
 -- number. So a put of lent words counts as one whose words are good.
@@ -22,8 +19,8 @@ Zeros b = b ≡ replicate 512 0
 
 -- a step with its verdict
 abbrev pub counted_as : Verdict → Reading → Reading
-counted_as Fine r = r
-counted_as (Refuse q) r = Bad q
+counted_as (Ok _) r = r
+counted_as (Err q) r = Err q
 
 -- A step counts as itself where it may be done, and as its refusal where it is refused: then nothing of it but the number comes back, and it changes
 -- nothing.
@@ -68,8 +65,8 @@ seen k ws = only (see k) (steps ws)
 
 -- how many steps of the list are refused, of which nothing but the number is compared
 abbrev pub is_refused : Reading → Bool
-is_refused (Good s) = false
-is_refused (Bad q) = true
+is_refused (Ok s) = false
+is_refused (Err q) = true
 
 abbrev pub refused_to : List ℕ → ℕ → ℕ
 refused_to ws i = length (only is_refused (firsts (step_at ws) i))
@@ -79,4 +76,4 @@ refused_in ws = refused_to ws (count ws)
 
 -- (what stands past a list's end, and is never looked at)
 abbrev pub past : Reading
-past = Bad Garbled
+past = Err Garbled

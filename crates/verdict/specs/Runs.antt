@@ -1,14 +1,12 @@
 -- Two lists that were compared, and then run as they are lent: what the comparison says of the runs.
-use Rattle.std.specs.Prelude.{◌≡◌, true, List, ℕ, ◌*◌, ◌≤◌, ◌<◌, length}
+use Rattle.std.specs.Prelude.{◌≡◌, true, List, ℕ, ◌*◌, ◌≤◌, ◌<◌, length, Ok, Option, None, Some}
 use Rattle.step.specs.Verdict.{is_fine, verdict_of}
-use Rattle.step.specs.declared.Verdict.TheVariants.{Fine}
 use Rattle.lists.specs.Words.{reading_of, part, orders_of}
 use Rattle.lists.specs.Runs.{Ran, list_of}
 use Rattle.rehearsal.specs.Pairs.{RearrangedWords, AlikeWords}
 use Rattle.verdict.specs.Counted.{lent, count}
 use Rattle.verdict.specs.Compared.{Lawful, LentAlike}
-use Rattle.verdict.specs.declared.Comparison.{Comparison}
-use Rattle.verdict.specs.declared.Comparison.TheVariants.{Same, Parted}
+use Rattle.verdict.specs.declared.Parted.{Parted}
 
 -- the whole list us, run from the memory m with its answers and buffers lent
 abbrev pub run_of : (m us answers buffers : List ℕ) → Ran
@@ -19,7 +17,7 @@ run_of m us answers buffers = list_of m (count us) us answers buffers
 abbrev pub SameRuns : List ℕ → List ℕ → Type 0
 SameRuns us ws =
     (p : List ℕ) × Lawful us ws p
-    × ((m a1 b1 a2 b2 : List ℕ) → LentAlike us b1 ws b2 p → (run_of m us a1 b1).verdict ≡ Fine → (run_of m ws a2 b2).verdict ≡ Fine
+    × ((m a1 b1 a2 b2 : List ℕ) → LentAlike us b1 ws b2 p → (run_of m us a1 b1).verdict ≡ Ok tt → (run_of m ws a2 b2).verdict ≡ Ok tt
     → AlikeWords (run_of m us a1 b1) (run_of m ws a2 b2) (count ws) p)
 
 -- each step that is fine with 512 words of 0 is fine with its own part of the buffers. So it is where each part has 512 words, each of 24 bits
@@ -33,9 +31,9 @@ abbrev pub NeverRearranged : List ℕ → List ℕ → Type 0
 NeverRearranged us ws = (b1 b2 p : List ℕ) → GoodWords ws b2 → RearrangedWords (orders_of us b1 (count us)) (orders_of ws b2 (count ws)) p → ⊥
 
 -- what a comparison says of the runs
-abbrev pub ComparedRuns : List ℕ → List ℕ → Comparison → Type 0
-ComparedRuns us ws Same = SameRuns us ws
-ComparedRuns us ws (Parted k i j) = NeverRearranged us ws
+abbrev pub ComparedRuns : List ℕ → List ℕ → Option Parted → Type 0
+ComparedRuns us ws None = SameRuns us ws
+ComparedRuns us ws (Some d) = NeverRearranged us ws
 
 -- each step is handed the same 512 words w: then the buffers are handed as any rearrangement says (`lent-equal`)
 abbrev pub EachLent : (us buffers w : List ℕ) → Type 0

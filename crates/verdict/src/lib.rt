@@ -3,94 +3,82 @@
 // refused with r. The open calls come last; what stands before them is lent a buffer of 512 zeros, with which a step is judged best.
 #![tactic(auto)]
 
-ghost use Rattle.std.specs.Prelude.{◌≡◌, [], ◌∷◌, ◌≤◌, ◌<◌, length};
-ghost use Rattle.step.specs.declared.Reading.{Reading};
-ghost use Rattle.verdict.specs.Watches.{only, Watch};
-ghost use Rattle.verdict.specs.Counted.{Zeros, counted, see, count, step_at, is_refused, refused_in};
+ghost use Rattle.std.specs.Prelude.{◌≡◌, ◌≤◌, ◌<◌, length, Ok};
+ghost use Rattle.verdict.specs.Watches.{Watch};
+ghost use Rattle.verdict.specs.Counted.{Zeros, counted, see, count, step_at, refused_in};
+ghost use Rattle.lists.specs.Words.{part};
 ghost use Rattle.verdict.specs.Tells.{Tells};
 ghost use Rattle.verdict.specs.Compared.{Next, Watched, Stands, Compared};
 
 use lists::{BUFFER_WORDS, STEP_WORDS};
-use step::{REFUSALS, Reading, Step, Verdict};
-
-const LAST_STATION: u32 = 23;
+use step::fields::LAST_STATION;
+use step::{REFUSALS, Refusal, Step};
 
 // A watch for each station, and one for each refusal.
 pub const LAST_WATCH: u32 = LAST_STATION + REFUSALS;
 
-// Parted: the watch, and the places in the first list and in the second where it parts.
-#[derive(Clone, Copy)]
-pub enum Comparison {
-    Same,
-    Parted {
-        watch: u32,
-        first: usize,
-        second: usize,
-    },
+// Where two lists part: the watch that sees them part, and the places in the first list and in the second.
+#[derive(Clone, Copy, PartialEq, Eq)]
+pub struct Parted {
+    pub watch: u32,
+    pub first: usize,
+    pub second: usize,
 }
 
 // Watch k sees a step that may be done.
+#[tactic(auto, using(crate::proofs::CountedLaws::see_by_reach))]
 fn sees_good(step: Step, k: u32) -> bool
-    requires { counted (Reading.Good step) ≡ Reading.Good step }
-    ensures { result ≡ see k (Reading.Good step) }
+    requires { counted (Ok step) ≡ Ok step }
+    ensures { result ≡ see k (Ok step) }
 {
-    if k > LAST_STATION {
-        return false;
-    }
-    step::reaches(step, k)
+    k <= LAST_STATION && step::reaches(step, k)
 }
 
 // Watch k sees the step.
-fn sees(reading: Reading, k: u32) -> bool
+fn sees(reading: Result<Step, Refusal>, k: u32) -> bool
     requires { counted reading ≡ reading }
     ensures { result ≡ see k reading }
 {
     match reading {
-        Reading::Good(s) => sees_good(s, k),
-        Reading::Bad(q) => k == LAST_STATION + step::refusal_number(q),
+        Ok(s) => sees_good(s, k),
+        Err(q) => k == LAST_STATION + step::refusal_number(q),
     }
 }
 
 // What a step counts as: itself, or its refusal.
-fn judged(step: Step, lent: &[u32]) -> Reading
+fn judged(step: Step, lent: &[u32]) -> Result<Step, Refusal>
     requires { Zeros lent.now }
-    ensures { result ≡ counted (Reading.Good step) }
+    ensures { result ≡ counted (Ok step) }
 {
-    let verdict = step::judge(step, lent);
-    match verdict {
-        Verdict::Fine => Reading::Good(step),
-        Verdict::Refuse(q) => Reading::Bad(q),
-    }
+    step::judge(step, lent)?;
+    Ok(step)
+}
+
+// The six words of step k of a list.
+fn step_words(words: &[u32], k: usize) -> &[u32]
+    requires { k < count words.now }
+    ensures words { result.now ≡ part 6 words.now k }
+    ensures len { length result.now ≡ 6 }
+{
+    let at = STEP_WORDS * k;
+    &words[at..at + STEP_WORDS]
 }
 
 // What step k of a list counts as.
-fn step_at(words: &[u32], k: usize, lent: &[u32]) -> Reading
+#[tactic(auto, using(crate::proofs::CountedLaws::bad_counts))]
+fn step_at(words: &[u32], k: usize, lent: &[u32]) -> Result<Step, Refusal>
     requires { (k < count words.now) × Zeros lent.now }
     ensures { result ≡ step_at words.now k }
 {
-    let at = STEP_WORDS * k;
-    let to = at + STEP_WORDS;
-    let reading = lists::read_step(&words[at..to]);
-    match reading {
-        Reading::Good(s) => judged(s, lent),
-        Reading::Bad(q) => Reading::Bad(q),
-    }
+    judged(lists::read_step(step_words(words, k))?, lent)
 }
 
 // Watch k, a station, sees what the step counts as. Few steps reach a station, so the fields are judged last.
 fn touches(step: Step, k: u32, lent: &[u32]) -> bool
     requires { Zeros lent.now × (k ≤ 23) }
-    ensures { result ≡ see k (counted (Reading.Good step)) }
+    ensures { result ≡ see k (counted (Ok step)) }
 {
-    let reached = step::reaches(step, k);
-    if !reached {
-        return false;
-    }
-    let verdict = step::judge(step, lent);
-    match verdict {
-        Verdict::Fine => true,
-        Verdict::Refuse(_) => false,
-    }
+    step::reaches(step, k) && step::judge(step, lent).is_ok()
 }
 
 // Watch k, a station, sees step i of a list.
@@ -98,66 +86,40 @@ fn touches_at(words: &[u32], i: usize, k: u32, lent: &[u32]) -> bool
     requires { (i < count words.now) × Zeros lent.now × (k ≤ 23) }
     ensures { result ≡ see k (step_at words.now i) }
 {
-    let at = STEP_WORDS * i;
-    let to = at + STEP_WORDS;
-    let reading = lists::read_step(&words[at..to]);
-    match reading {
-        Reading::Good(s) => touches(s, k, lent),
-        Reading::Bad(_) => false,
-    }
+    lists::read_step(step_words(words, i)).is_ok_and(|s| touches(s, k, lent))
 }
 
 // Watch k sees step i of a list.
+#[tactic(auto, using(crate::proofs::CountedLaws::step_counts))]
 fn sees_at(words: &[u32], i: usize, k: u32, lent: &[u32]) -> bool
     requires { (i < count words.now) × Zeros lent.now }
     ensures { result ≡ see k (step_at words.now i) }
 {
     if k <= LAST_STATION {
-        return touches_at(words, i, k, lent);
+        touches_at(words, i, k, lent)
+    } else {
+        sees(step_at(words, i, lent), k)
     }
-    sees(step_at(words, i, lent), k)
 }
 
-// Six words are equal.
+// Six words are equal. A `for`, since `==` of slices takes nearly twice as long here.
 fn same_words(x: &[u32], y: &[u32]) -> bool
     requires { (length x.now ≡ 6) × (length y.now ≡ 6) }
     ensures { Tells result (x.now ≡ y.now) }
 {
-    let mut i = 0;
-    while i < STEP_WORDS {
+    for i in 0..STEP_WORDS {
         if x[i] != y[i] {
             return false;
         }
-        i += 1;
     }
     true
 }
 
-// Two steps are equal: their words are.
-fn same_step(s: Step, t: Step) -> bool
-    ensures { Tells result (s ≡ t) }
-{
-    let mut u = [0u32; STEP_WORDS];
-    let mut w = [0u32; STEP_WORDS];
-    lists::write_step(&mut u, s);
-    lists::write_step(&mut w, t);
-    same_words(&u, &w)
-}
-
 // What two steps count as is equal: the same step, or the same refusal.
-fn same_reading(x: Reading, y: Reading) -> bool
+fn same_reading(x: Result<Step, Refusal>, y: Result<Step, Refusal>) -> bool
     ensures { Tells result (x ≡ y) }
 {
-    match x {
-        Reading::Good(s) => match y {
-            Reading::Good(t) => same_step(s, t),
-            Reading::Bad(_) => false,
-        },
-        Reading::Bad(q) => match y {
-            Reading::Good(_) => false,
-            Reading::Bad(p) => step::refusal_number(q) == step::refusal_number(p),
-        },
-    }
+    x == y
 }
 
 // Step i of the first list and step j of the second are equal steps. Most that are equal have equal words, and need not be judged.
@@ -165,17 +127,8 @@ fn equal(first: &[u32], i: usize, second: &[u32], j: usize, lent: &[u32]) -> boo
     requires { (i < count first.now) × (j < count second.now) × Zeros lent.now }
     ensures { Tells result (step_at first.now i ≡ step_at second.now j) }
 {
-    let at = STEP_WORDS * i;
-    let end = at + STEP_WORDS;
-    let from = STEP_WORDS * j;
-    let to = from + STEP_WORDS;
-    let alike = same_words(&first[at..end], &second[from..to]);
-    if alike {
-        return true;
-    }
-    let x = step_at(first, i, lent);
-    let y = step_at(second, j, lent);
-    same_reading(x, y)
+    same_words(step_words(first, i), step_words(second, j))
+        || same_reading(step_at(first, i, lent), step_at(second, j, lent))
 }
 
 // The first place from `from` on whose step watch k sees, or the number of steps.
@@ -184,19 +137,13 @@ fn next(words: &[u32], from: usize, k: u32, lent: &[u32]) -> usize
     ensures { Next words.now k from result }
 {
     let end = words.len() / STEP_WORDS;
-    let mut i = from;
-    while i < end {
-        let seen = sees_at(words, i, k, lent);
-        if seen {
-            return i;
-        }
-        i += 1;
-    }
-    end
+    (from..end)
+        .find(|i| sees_at(words, *i, k, lent))
+        .unwrap_or(end)
 }
 
-// What watch k sees of the two lists, with a cursor in each.
-fn walk(first: &[u32], second: &[u32], k: u32, lent: &[u32]) -> Comparison
+// Where watch k sees the two lists part. A loop, since each list has a cursor of its own.
+fn walk(first: &[u32], second: &[u32], k: u32, lent: &[u32]) -> Option<Parted>
     requires { Watch k × Zeros lent.now }
     ensures { Watched first.now second.now k result }
 {
@@ -207,30 +154,15 @@ fn walk(first: &[u32], second: &[u32], k: u32, lent: &[u32]) -> Comparison
     loop {
         let x = next(first, i, k, lent);
         let y = next(second, j, k, lent);
-        if x == m {
-            if y == n {
-                return Comparison::Same;
-            }
-            return Comparison::Parted {
-                watch: k,
-                first: x,
-                second: y,
-            };
+        if x == m && y == n {
+            return None;
         }
-        if y == n {
-            return Comparison::Parted {
+        if x == m || y == n || !equal(first, x, second, y, lent) {
+            return Some(Parted {
                 watch: k,
                 first: x,
                 second: y,
-            };
-        }
-        let e = equal(first, x, second, y, lent);
-        if !e {
-            return Comparison::Parted {
-                watch: k,
-                first: x,
-                second: y,
-            };
+            });
         }
         i = x + 1;
         j = y + 1;
@@ -238,30 +170,11 @@ fn walk(first: &[u32], second: &[u32], k: u32, lent: &[u32]) -> Comparison
 }
 
 // The watches one after the other, up to the first that parts.
-fn walk_all(first: &[u32], second: &[u32], lent: &[u32]) -> Comparison
+fn walk_all(first: &[u32], second: &[u32], lent: &[u32]) -> Option<Parted>
     requires { Zeros lent.now }
     ensures { Compared first.now second.now result }
 {
-    let mut k: u32 = 1;
-    while k <= LAST_WATCH {
-        let v = walk(first, second, k, lent);
-        match v {
-            Comparison::Same => {}
-            Comparison::Parted {
-                watch: n,
-                first: i,
-                second: j,
-            } => {
-                return Comparison::Parted {
-                    watch: n,
-                    first: i,
-                    second: j,
-                };
-            }
-        }
-        k += 1;
-    }
-    Comparison::Same
+    (1..=LAST_WATCH).find_map(|k| walk(first, second, k, lent))
 }
 
 // The first place from `from` on where the second list has step i of the first, or the number of its steps.
@@ -270,46 +183,25 @@ fn seek(first: &[u32], i: usize, second: &[u32], from: usize, lent: &[u32]) -> u
     ensures { Stands first.now i second.now from result }
 {
     let end = second.len() / STEP_WORDS;
-    let mut j = from;
-    while j < end {
-        let e = equal(first, i, second, j, lent);
-        if e {
-            return j;
-        }
-        j += 1;
-    }
-    end
-}
-
-// 1 where step i of a list is refused, else 0.
-fn refused_at(words: &[u32], i: usize, lent: &[u32]) -> usize
-    requires { (i < count words.now) × Zeros lent.now }
-    ensures { result ≡ length (only is_refused (step_at words.now i ∷ [])) }
-{
-    let reading = step_at(words, i, lent);
-    match reading {
-        Reading::Good(_) => 0,
-        Reading::Bad(_) => 1,
-    }
+    (from..end)
+        .find(|j| equal(first, i, second, *j, lent))
+        .unwrap_or(end)
 }
 
 // IS THE SECOND LIST A LAWFUL REARRANGEMENT OF THE FIRST? If not, where does the first watch that parts see them part?
-pub fn compare(first: &[u32], second: &[u32]) -> Comparison
+pub fn compare(first: &[u32], second: &[u32]) -> Option<Parted>
     ensures { Compared first.now second.now result }
 {
     let lent = [0u32; BUFFER_WORDS];
     walk_all(first, second, &lent)
 }
 
-// What watch k alone says of the two lists; what is no watch says Same.
-pub fn watch(first: &[u32], second: &[u32], k: u32) -> Comparison
+// Where watch k alone sees the two lists part; what is no watch sees them part nowhere.
+pub fn watch(first: &[u32], second: &[u32], k: u32) -> Option<Parted>
     ensures { Watched first.now second.now k result }
 {
-    if k < 1 {
-        return Comparison::Same;
-    }
-    if k > LAST_WATCH {
-        return Comparison::Same;
+    if k < 1 || k > LAST_WATCH {
+        return None;
     }
     let lent = [0u32; BUFFER_WORDS];
     walk(first, second, k, &lent)
@@ -321,10 +213,7 @@ pub fn find(first: &[u32], i: usize, second: &[u32], from: usize) -> usize
     ensures { Stands first.now i second.now from result }
 {
     let end = second.len() / STEP_WORDS;
-    if i >= first.len() / STEP_WORDS {
-        return end;
-    }
-    if from >= end {
+    if i >= first.len() / STEP_WORDS || from >= end {
         return end;
     }
     let lent = [0u32; BUFFER_WORDS];
@@ -336,12 +225,7 @@ pub fn refused(words: &[u32]) -> usize
     ensures { result ≡ refused_in words.now }
 {
     let lent = [0u32; BUFFER_WORDS];
-    let end = words.len() / STEP_WORDS;
-    let mut many = 0;
-    let mut i = 0;
-    while i < end {
-        many += refused_at(words, i, &lent);
-        i += 1;
-    }
-    many
+    (0..words.len() / STEP_WORDS)
+        .filter(|i| step_at(words, *i, &lent).is_err())
+        .count()
 }

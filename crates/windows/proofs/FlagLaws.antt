@@ -12,8 +12,10 @@ use borrow.Author.Tests.{ltb-true, ltb-false, le-leb}
 use lib.Dec.{eqb, ltb}
 use lib.ListN.{length, get_or, drop, set, length-append, length-drop, get_or-append}
 use lib.Seq.{set_at, get_or_at, drop-cons}
+use Rattle.std.specs.Prelude.{Some, None}
+use Rattle.std.proofs.lemmas.Option.{cond_some, none-some}
 use Rattle.word24.specs.Word.{bit_of, as_bit, bits_of}
-use Rattle.word24.proofs.BitsOf.{bit-lt, bits-bit, bits-clear, bits-cong, bits_none}
+use Rattle.word24.proofs.BitsOf.{bits-bit, bits-clear, bits-cong, bits_none}
 use Rattle.blocks.specs.Blocks.{block_of}
 use Rattle.kinds.proofs.TestLaws.{alike, decided, both_true}
 use Rattle.kinds.specs.Cases.{is_one_of}
@@ -151,35 +153,51 @@ module _ (m : List ℕ) where
       (λ j b. sym (inside-all f (16 * n + j) (omega arith) (omega arith))))
 
 -- ---- the loop's turn
--- i words are written, for the numbers from `from` to p, and `count` registers were read
-pub record Pass (sheet m b₀ b : List ℕ) (from i p count : ℕ) : Type 0 where
-  pub number : p ≡ from + i
+-- i words are written, for the numbers from `from` on, and `count` registers were read
+pub record Pass (sheet m b₀ b : List ℕ) (from i count : ℕ) : Type 0 where
   pub words : b ≡ words_from (flag_of sheet m) from i ++ drop i b₀
   pub reads : count ≡ there_from m from i
 
-pub pass-starts : (sheet m b : List ℕ) (from : ℕ) → Pass sheet m b b from 0 from 0
-pass-starts sheet m b from = record { number = omega arith; words = words-starts (flag_of sheet m) from b; reads = rw (picked_none (is_there m) from) }
+pub pass-starts : (sheet m b : List ℕ) (from : ℕ) → Pass sheet m b b from 0 0
+pass-starts sheet m b from = record { words = words-starts (flag_of sheet m) from b; reads = rw (picked_none (is_there m) from) }
 
-pub pass-next : (sheet m b₀ b : List ℕ) (from i p count v r : ℕ) → Pass sheet m b₀ b from i p count → i < length b₀
-    → v ≡ flag_of sheet m p → r ≡ as_bit (is_there m p) → Pass sheet m b₀ (set b i v) from (i + 1) (p + 1) (count + r)
-pass-next sheet m b₀ b from i p count v r h l ev er = record {
-  number = omega (arith, h.number);
-  words = words-next (flag_of sheet m) from i b₀ b v (ev ∙ ap (flag_of sheet m) h.number) l h.words;
-  reads = ap₂ (λ (x y : ℕ). x + y) h.reads (er ∙ ap (λ (q : ℕ). as_bit (is_there m q)) h.number) ∙ sym (picked_next (is_there m) from i);
+pass-next : (sheet m b₀ b : List ℕ) (from i count v r : ℕ) → Pass sheet m b₀ b from i count → i < length b₀
+    → v ≡ flag_of sheet m (from + i) → r ≡ as_bit (is_there m (from + i)) → Pass sheet m b₀ (set b i v) from (i + 1) (count + r)
+pass-next sheet m b₀ b from i count v r h l ev er = record {
+  words = words-next (flag_of sheet m) from i b₀ b v ev l h.words;
+  reads = ap₂ (λ (x y : ℕ). x + y) h.reads er ∙ sym (picked_next (is_there m) from i);
 }
 
-pub pass-few : {sheet m b₀ b : List ℕ} {from i p count : ℕ} → Pass sheet m b₀ b from i p count → count ≤ i
+-- the register is there, with the value v
+pub pass-there : (sheet m b₀ b : List ℕ) (from i count v w : ℕ) → Pass sheet m b₀ b from i count → i < length b₀
+    → cond (is_there m (from + i)) (Some (value_of m (from + i))) None ≡ Some v
+    → w ≡ bits_of (λ j. within (low_of sheet j) v (high_of sheet j)) (windows_in sheet) → Pass sheet m b₀ (set b i w) from (i + 1) (count + 1)
+pass-there sheet m b₀ b from i count v w h l e ew =
+    let there = cond_some (is_there m (from + i)) (value_of m (from + i)) v e in
+    pass-next sheet m b₀ b from i count w 1 h l
+    (ew ∙ ap (λ (x : ℕ). bits_of (λ j. within (low_of sheet j) x (high_of sheet j)) (windows_in sheet)) (sym there.1) ∙ flag-there sheet m (from + i) there.0)
+    (rw there.0)
+
+-- or it is not
+pub pass-absent : (sheet m b₀ b : List ℕ) (from i count : ℕ) → Pass sheet m b₀ b from i count → i < length b₀
+    → cond (is_there m (from + i)) (Some (value_of m (from + i))) None ≡ None → Pass sheet m b₀ (set b i 0) from (i + 1) count
+pass-absent sheet m b₀ b from i count h l e =
+    let absent : is_there m (from + i) ≡ false = ⊎_elim
+    (λ (t : is_there m (from + i) ≡ true). absurd (none-some _ (sym (rw t at e))))
+    (λ (t : is_there m (from + i) ≡ false). t)
+    (decided (is_there m (from + i))) in
+    let none : count + 0 ≡ count = omega arith in
+    rw none at (pass-next sheet m b₀ b from i count 0 0 h l (flag-absent sheet m (from + i) absent) (rw absent))
+
+pub pass-few : {sheet m b₀ b : List ℕ} {from i count : ℕ} → Pass sheet m b₀ b from i count → count ≤ i
 pass-few {m = m} {from = from} {i = i} h = omega (arith, h.reads, picked-few (is_there m) from i)
 
-pub pass-long : {sheet m b₀ b : List ℕ} {from i p count : ℕ} → Pass sheet m b₀ b from i p count → i ≤ length b₀ → length b ≡ length b₀
+pub pass-long : {sheet m b₀ b : List ℕ} {from i count : ℕ} → Pass sheet m b₀ b from i count → i ≤ length b₀ → length b ≡ length b₀
 pass-long {sheet} {m} {b₀} {b} {from} {i} h l =
     ap length h.words
     ∙ omega (arith, length-append (words_from (flag_of sheet m) from i) (drop i b₀), words_long (flag_of sheet m) from i, length-drop i b₀)
 
-pub pass-one : (m : List ℕ) (p r : ℕ) → r ≡ as_bit (is_there m p) → r ≤ 1
-pass-one m p r e = omega (arith, bit-lt (is_there m p))
-
-pub pass-ends : {sheet m b₀ b : List ℕ} {n i p count : ℕ} (to : ℕ) → Pass sheet m b₀ b (16 * n) i p count → i ≡ places_of n to
+pub pass-ends : {sheet m b₀ b : List ℕ} {n i count : ℕ} (to : ℕ) → Pass sheet m b₀ b (16 * n) i count → i ≡ places_of n to
     → FitCrate m → 1 ≤ n → n ≤ to → to ≤ 23 → (count ≡ read_of m n to) × (b ≡ flags_of sheet m n to ++ drop (places_of n to) b₀)
 unfolding flags_of
 pass-ends {sheet} {m} {b₀} {b} {n} to h e f l k j = (

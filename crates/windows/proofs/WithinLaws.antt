@@ -11,8 +11,8 @@ use borrow.Author.Tests.{lt-ltb, le-leb, lt-leb, le-ltb, eq-eqb, ne_eqb, leb-tru
 use lib.Dec.{leb, ltb, eqb}
 use lib.ListN.{length, get_or, drop, set, length-append, length-drop}
 use lib.Seq.{set_at, drop-cons}
+use Rattle.std.specs.Prelude.{Some, None}
 use Rattle.blocks.proofs.Blocks.{word-block}
-use Rattle.word24.specs.Word.{as_bit}
 use Rattle.kinds.specs.Cases.{is_one_of}
 use Rattle.kinds.proofs.TestLaws.{decided, alike, both_false, one-of-first}
 use Rattle.step.specs.Verdict.{within, places_of}
@@ -37,10 +37,10 @@ module _ (m : List ℕ) (p at : ℕ) (e : at ≡ 32 * (p / 16)) where
   by_kind (inr (inl h)) = of-kind 3 (sym kind_at ∙ h) refl
   by_kind (inr (inr h)) = of-kind 5 (sym kind_at ∙ h) refl
 
-  pub there-some : ListedKind (get_or m (at + 0) 0) → ltb (p % 16) (get_or m (at + 1) 0) ≡ is_there m p
+  there-some : ListedKind (get_or m (at + 0) 0) → ltb (p % 16) (get_or m (at + 1) 0) ≡ is_there m p
   there-some k = ap (ltb (p % 16)) count_at ∙ sym (by_kind k)
 
-  pub there-none : (ListedKind (get_or m (at + 0) 0) → ⊥) → false ≡ is_there m p
+  there-none : (ListedKind (get_or m (at + 0) 0) → ⊥) → is_there m p ≡ false
   unfolding is_there
   there-none n =
       simp (
@@ -49,18 +49,20 @@ module _ (m : List ℕ) (p at : ℕ) (e : at ≡ 32 * (p / 16)) where
         ne_eqb (get_or (holder m p) 0 0) 5 (λ h. n (inr (inr (kind_at ∙ h)))),
       )
 
-  pub value-at : get_or m (at + 16 + p % 16) 0 ≡ value_of m p
+  value-at : get_or m (at + 16 + p % 16) 0 ≡ value_of m p
   unfolding value_of
   value-at = rw e (ap (λ (i : ℕ). get_or m i 0) (omega arith) ∙ sym (word-block m (p / 16) (16 + p % 16) (omega arith)))
 
-module _ (m : List ℕ) (lo hi p : ℕ) where
-  pub inside-absent : false ≡ is_there m p → false ≡ is_inside m lo hi p
-  unfolding is_inside
-  inside-absent e = rw (sym e)
+  -- below r, at r and above, and in a station of no such kind
+  pub register_below : ListedKind (get_or m (at + 0) 0) → p % 16 < get_or m (at + 1) 0
+      → Some (get_or m (at + 16 + p % 16) 0) ≡ cond (is_there m p) (Some (value_of m p)) None
+  register_below k l = rw (sym (there-some k) ∙ lt-ltb (p % 16) (get_or m (at + 1) 0) l, value-at)
 
-  pub inside-there : (v : ℕ) (r : Bool) → true ≡ is_there m p → v ≡ value_of m p → r ≡ within lo v hi → r ≡ is_inside m lo hi p
-  unfolding is_inside
-  inside-there v r e f g = rw (sym e) (g ∙ ap (λ (x : ℕ). within lo x hi) f)
+  pub register_above : ListedKind (get_or m (at + 0) 0) → get_or m (at + 1) 0 ≤ p % 16 → None ≡ cond (is_there m p) (Some (value_of m p)) None
+  register_above k l = rw (sym (there-some k) ∙ le-ltb (p % 16) (get_or m (at + 1) 0) l)
+
+  pub register_none : (ListedKind (get_or m (at + 0) 0) → ⊥) → None ≡ cond (is_there m p) (Some (value_of m p)) None
+  register_none n = rw (there-none n)
 
 -- ---- picking
 module _ (t : ℕ → Bool) (from : ℕ) where
@@ -89,22 +91,38 @@ module _ (t : ℕ → Bool) (from : ℕ) where
       (decided (t (from + k))))
 
   -- ---- the loop: what was listed so far, and the buffer's rest
-  -- one register more
-  pub listed_next : (k at p : ℕ) (b₀ b b' : List ℕ) (s : Bool) → s ≡ t (from + k) → p ≡ from + k → k < length b₀
-      → at ≡ length (picked t from k) → b ≡ listed_in (picked t from k) b₀ → b' ≡ cond s (set b at p) b
-      → (at + as_bit s ≡ length (picked t from (k + 1))) × (b' ≡ listed_in (picked t from (k + 1)) b₀)
-  listed_next k at p b₀ b b' true es ep lt ea eb eb' =
-      let q = picked-in k (sym es) in
+  -- one register more is listed
+  listed_in_next : (k at : ℕ) (b₀ b : List ℕ) → t (from + k) ≡ true → k < length b₀ → at ≡ length (picked t from k) → b ≡ listed_in (picked t from k) b₀
+      → (at + 1 ≡ length (picked t from (k + 1))) × (set b at (from + k) ≡ listed_in (picked t from (k + 1)) b₀)
+  listed_in_next k at b₀ b e lt ea eb =
+      let q = picked-in k e in
       let few = picked-few k in
       let rest : drop at b₀ ≡ get_or b₀ at 0 ∷ drop (suc at) b₀ = drop-cons b₀ at 0 (omega arith) in
       let len : length (picked t from k ++ ((from + k) ∷ [])) ≡ suc at = omega (arith, length-append (picked t from k) ((from + k) ∷ [])) in (
         rw q (omega arith),
-        eb' ∙ ap (λ (l : List ℕ). set l at p) (eb ∙ ap (λ (j : ℕ). picked t from k ++ drop j b₀) (sym ea) ∙ ap (λ (l : List ℕ). picked t from k ++ l) rest)
-            ∙ set_at (picked t from k) (get_or b₀ at 0) (drop (suc at) b₀) p at (sym ea)
-            ∙ rw (ep, q, len) (sym (append_assoc (picked t from k) ((from + k) ∷ []) (drop (suc at) b₀))),
+        ap (λ (l : List ℕ). set l at (from + k)) (eb ∙ ap (λ (j : ℕ). picked t from k ++ drop j b₀) (sym ea) ∙ ap (λ (l : List ℕ). picked t from k ++ l) rest)
+            ∙ set_at (picked t from k) (get_or b₀ at 0) (drop (suc at) b₀) (from + k) at (sym ea)
+            ∙ rw (q, len) (sym (append_assoc (picked t from k) ((from + k) ∷ []) (drop (suc at) b₀))),
       )
-  listed_next k at p b₀ b b' false es ep lt ea eb eb' =
-      let q = picked-out k (sym es) in (rw q (omega arith), eb' ∙ eb ∙ rw q)
+
+  -- the loop's turn at register p: it is listed
+  pub within-in : (p at : ℕ) (b₀ b : List ℕ) → t p ≡ true → from ≤ p → p - from < length b₀
+      → at ≡ length (picked t from (p - from)) → b ≡ listed_in (picked t from (p - from)) b₀
+      → (at + 1 ≡ length (picked t from (p + 1 - from))) × (set b at p ≡ listed_in (picked t from (p + 1 - from)) b₀)
+  within-in p at b₀ b s l h ea eb =
+      let e : from + (p - from) ≡ p = omega arith in
+      let f : p + 1 - from ≡ p - from + 1 = omega arith in
+      let turn = listed_in_next (p - from) at b₀ b (ap t e ∙ s) h ea eb in
+      rw f (turn.0, ap (set b at) (sym e) ∙ turn.1)
+
+  -- or it is not
+  pub within-out : (p at : ℕ) (b₀ b : List ℕ) → t p ≡ false → from ≤ p
+      → at ≡ length (picked t from (p - from)) → b ≡ listed_in (picked t from (p - from)) b₀
+      → (at ≡ length (picked t from (p + 1 - from))) × (b ≡ listed_in (picked t from (p + 1 - from)) b₀)
+  within-out p at b₀ b s l ea eb =
+      let e : from + (p - from) ≡ p = omega arith in
+      let f : p + 1 - from ≡ p - from + 1 = omega arith in
+      rw (f, picked-out (p - from) (ap t e ∙ s)) (ea, eb)
 
 -- tests that agree pick the same
 pub picked-alike : (t u : ℕ → Bool) (from k : ℕ) → ((j : ℕ) → j < k → t (from + j) ≡ u (from + j)) → picked t from k ≡ picked u from k
@@ -112,15 +130,6 @@ unfolding picked
 picked-alike t u from zero h = refl
 picked-alike t u from (suc k) h =
     ap₂ (λ (x : List ℕ) (s : Bool). x ++ cond s ((from + k) ∷ []) []) (picked-alike t u from k (λ j l. h j (omega arith))) (h k (omega arith))
-
--- the loop's turn at register p, of those from `from` on
-pub within-next : (t : ℕ → Bool) (from p at : ℕ) (b₀ b b' : List ℕ) (s : Bool) → s ≡ t p → from ≤ p → p - from < length b₀
-    → at ≡ length (picked t from (p - from)) → b ≡ listed_in (picked t from (p - from)) b₀ → b' ≡ cond s (set b at p) b
-    → (at + as_bit s ≡ length (picked t from (p + 1 - from))) × (b' ≡ listed_in (picked t from (p + 1 - from)) b₀)
-within-next t from p at b₀ b b' s es l h ea eb eb' =
-    let e : p ≡ from + (p - from) = omega arith in
-    let f : p + 1 - from ≡ p - from + 1 = omega arith in
-    rw f (listed_next t from (p - from) at p b₀ b b' s (es ∙ ap t e) e h ea eb eb')
 
 pub within-starts : (t : ℕ → Bool) (from : ℕ) (b : List ℕ) → (0 ≡ length (picked t from (from - from))) × (b ≡ listed_in (picked t from (from - from)) b)
 within-starts t from b = let e : from - from ≡ 0 = omega arith in rw (e, picked_none t from) (refl, refl)

@@ -1,14 +1,15 @@
 -- The call for a sheet of windows (RULES 4.27 to 4.29, 6.30, 6.31): its refusals in their order, and what it leaves.
-use Rattle.std.specs.Prelude.{ℕ, ◌+◌, ◌-◌, ◌*◌, ◌/◌, ◌%◌, ◌≤◌, ◌<◌, ◌≡◌, Bool, ◌&&◌, List, [], ◌∷◌, ◌++◌, leb, eqb, length, take, drop}
+use Rattle.std.specs.Prelude.{ℕ, Result, ◌+◌, ◌-◌, ◌*◌, ◌/◌, ◌%◌, ◌≤◌, ◌<◌, ◌≡◌, Bool, ◌&&◌, List, [], ◌∷◌, ◌++◌, leb, eqb, length, take, drop, Ok, Err}
 use Rattle.step.specs.Verdict.{unless, station_then, range_then, window_then, places_of, room_then}
 use Rattle.step.specs.declared.Refusal.{Refusal}
 use Rattle.step.specs.declared.Refusal.TheVariants.{BadLength}
-use Rattle.step.specs.declared.Verdict.{Verdict}
-use Rattle.step.specs.declared.Verdict.TheVariants.{Fine, Refuse}
 use Rattle.windows.specs.Within.{within_of}
 use Rattle.windows.specs.Flags.{flags_of, read_of, windows_in, low_of, high_of, flagged_by}
-use Rattle.windows.specs.declared.sheets.Flagging.{Flagging}
-use Rattle.windows.specs.declared.sheets.Flagging.TheVariants.{Flagged, Refused}
+use Rattle.step.specs.Results.{Verdict}
+
+-- what the call answers: how many registers were read, or why none was
+abbrev pub Flagging : Type 0
+Flagging = Result ℕ Refusal
 
 -- ---- what is sent back
 -- so many words are a sheet: two for each of at most 64 windows
@@ -27,7 +28,7 @@ windows_then (lo ∷ (hi ∷ rest)) next = window_then lo hi (windows_then rest 
 
 -- the stations, the sheet, its windows, the flag words lent: 2, 6, 7, then window by window 5, 5, 14, then 8
 unfoldable pub sheet_verdict : (n to : ℕ) (sheet : List ℕ) (lent : ℕ) → Verdict
-sheet_verdict n to sheet lent = station_then n (range_then n to (sheet_then (length sheet) (windows_then sheet (room_then n to lent Fine))))
+sheet_verdict n to sheet lent = station_then n (range_then n to (sheet_then (length sheet) (windows_then sheet (room_then n to lent (Ok tt)))))
 
 -- ---- the call
 -- all that it comes to: its answer, and the lent flag words after it
@@ -37,16 +38,16 @@ pub record FlaggedSheet : Type 0 where
 
 -- a refusal changes nothing
 abbrev pub unflagged : Refusal → List ℕ → FlaggedSheet
-unflagged q flags = record { answer = Refused q; flags = flags }
+unflagged q flags = record { answer = Err q; flags = flags }
 
 -- what it does where it is not refused: the count of registers read, and the flag words; words past these keep their contents
 abbrev pub flagged : (m : List ℕ) (n to : ℕ) (sheet flags : List ℕ) → FlaggedSheet
-flagged m n to sheet flags = record { answer = Flagged (read_of m n to); flags = flags_of sheet m n to ++ drop (places_of n to) flags }
+flagged m n to sheet flags = record { answer = Ok (read_of m n to); flags = flags_of sheet m n to ++ drop (places_of n to) flags }
 
 -- the call with its verdict
 abbrev pub judged_sheet : Verdict → (m : List ℕ) (n to : ℕ) (sheet flags : List ℕ) → FlaggedSheet
-judged_sheet Fine m n to sheet flags = flagged m n to sheet flags
-judged_sheet (Refuse q) m n to sheet flags = unflagged q flags
+judged_sheet (Ok _) m n to sheet flags = flagged m n to sheet flags
+judged_sheet (Err q) m n to sheet flags = unflagged q flags
 
 -- the call on a fit crate
 unfoldable pub sheet_of : (m : List ℕ) (n to : ℕ) (sheet flags : List ℕ) → FlaggedSheet

@@ -26,7 +26,7 @@ module _ (k x : ℕ) (h : x < 2 ^ suc k) where
   half_lt : x / 2 < 2 ^ k
   half_lt = omega (arith, pow-suc 2 k)
 
--- ---- the machine's `x & !w` and `1 << a`, at k bits
+-- ---- `x & !w` and `1 << a`, at k bits
 -- omega takes at most 6 of `-`, `min`, `max` in a call, so the digits' part and the sum are apart
 low_parts : (x w : ℕ) → min (x % 2) (1 - w % 2) + min (x % 2) (w % 2) ≡ x % 2
 low_parts x w = omega arith
@@ -43,12 +43,16 @@ and-not-add (suc k) x w hx hw =
     and_step x y ∙ ap₂ (λ (u v : ℕ). bit_and (x / 2) u * 2 + min (x % 2) v) (complement_half k w hw) (complement_low k w hw) in
     glue x _ _ _ _ _ _ e (and_step x w) (and-not-add k (x / 2) (w / 2) (half_lt k x hx) (half_lt k w hw)) (low_parts x w)
 
-pub and-not : (k x w : ℕ) → x < 2 ^ k → w < 2 ^ k → bit_and x (2 ^ k - 1 - w) ≡ clear_bits x w
+and-not : (k x w : ℕ) → x < 2 ^ k → w < 2 ^ k → bit_and x (2 ^ k - 1 - w) ≡ clear_bits x w
 unfolding clear_bits
 and-not k x w hx hw = omega (arith, and-not-add k x w hx hw)
 
-pub one_bit : (k a : ℕ) → a < k → (1 * 2 ^ a) % 2 ^ k ≡ 2 ^ a
-one_bit k a h = ap (λ (n : ℕ). n % 2 ^ k) (one-mul (2 ^ a)) ∙ mod-eq_of_lt (pow-lt h)
+-- as the machine has them, at 32 bits
+pub and_not_word : (x w : ℕ) → x < 2 ^ 32 → w < 2 ^ 32 → bit_and x (2 ^ 32 - 1 - w) ≡ clear_bits x w
+and_not_word x w hx hw = and-not 32 x w hx hw
+
+pub one_bit_word : (a : ℕ) → a < 32 → (1 * 2 ^ a) % 2 ^ 32 ≡ 2 ^ a
+one_bit_word a h = ap (λ (n : ℕ). n % 2 ^ 32) (one-mul (2 ^ a)) ∙ mod-eq_of_lt (pow-lt h)
 
 -- ---- bit by bit: `bit_or` takes the greater of two bits, `bit_and` the lesser, `clear_bits` the first less the second
 pub bit-or : (a x w : ℕ) → bit_of a (bit_or x w) ≡ max (bit_of a x) (bit_of a w)

@@ -1,19 +1,20 @@
 // The up-down counter: a register and an event's word are read as signed numbers of 24 bits, and added in an i32.
 // The contracts cite the definitions of specs/Counter.antt.
 ghost use Rattle.std.specs.Prelude.{◌≡◌, ◌^◌, ◌<◌};
-ghost use Rattle.std.specs.Int.Signed.{mag};
 ghost use Rattle.word24.specs.Counter.{signed_of, exact_sum, mod24, in_span, raises_at};
 
-// The lowest number of the span, -2^23.
-const LOWEST: i32 = -8388608;
+use crate::word;
 
-// The highest number of the span, 2^23 - 1.
-const HIGHEST: i32 = 8388607;
+// The lowest number of the span.
+const LOWEST: i32 = -(1 << 23);
 
-// 2^24: by so much a word of 2^23 or more exceeds the number that it stands for.
-const MODULUS: i32 = 16777216;
+// The highest number of the span.
+const HIGHEST: i32 = (1 << 23) - 1;
 
-// What an event leaves: the register's new word, and whether its status bit is set.
+// By so much a word of 2^23 or more exceeds the number that it stands for.
+const MODULUS: i32 = word::MODULUS as i32;
+
+// What an event leaves: the register's new word, and whether its status bit is set. Each event gives both, so that no Option fits.
 #[derive(Clone, Copy)]
 pub struct Counted {
     pub value: u32,
@@ -30,33 +31,29 @@ pub fn signed24(x: u32) -> i32
     if z <= HIGHEST { z } else { z - MODULUS }
 }
 
-// A signed number back to a word. From -2^24 to 2^24 - 1, where the sum of two numbers in the span lies, one addition is enough.
+// A signed number back to a word.
 pub fn wrap24(z: i32) -> u32
-    requires { mag z < 2 ^ 24 }
     ensures { result ≡ mod24 z }
 {
-    if z < 0 {
-        (z + MODULUS) as u32
-    } else {
-        z as u32
-    }
+    z.rem_euclid(MODULUS) as u32
 }
 
 // Whether z is a signed number of 24 bits.
 pub fn in_span(z: i32) -> bool
     ensures { result ≡ in_span z }
 {
-    LOWEST <= z && z <= HIGHEST
+    (LOWEST..=HIGHEST).contains(&z)
 }
 
 // Whether the exact sum z sets the status bit: it is outside the span, or it is 0 while the register was not.
 pub fn raises(old: u32, z: i32) -> bool
     ensures { result ≡ raises_at old z }
 {
-    if in_span(z) { z == 0 && old != 0 } else { true }
+    !in_span(z) || (z == 0 && old != 0)
 }
 
 // An event v at a register that holds old. The flag looks at the exact sum, before it is brought back to 24 bits.
+#[tactic(auto, using(crate::proofs::CounterLaws::mag_signed))]
 pub fn count24(old: u32, v: u32) -> Counted
     requires { (old < 2 ^ 24) × (v < 2 ^ 24) }
     ensures value { result.value ≡ mod24 (exact_sum old v) }

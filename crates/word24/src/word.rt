@@ -4,12 +4,12 @@ ghost use Rattle.std.specs.Prelude.{◌≡◌, ◌^◌, ◌<◌, ltb};
 ghost use Rattle.word24.specs.Word.{sum_of, carry_of, complement_of, set_bits, clear_bits, bit_of, low_bits};
 
 // 2^24: a word is below it.
-const MODULUS: u64 = 16777216;
+pub(crate) const MODULUS: u32 = 1 << 24;
 
 // The word whose 24 bits are all 1.
-const ALL_ONES: u32 = 16777215;
+const ALL_ONES: u32 = MODULUS - 1;
 
-// A sum brought back to 24 bits, and whether it had to be.
+// A sum brought back to 24 bits, and whether it had to be. Both mean something of every sum, as in std's `overflowing_add`, whose pair has no names.
 #[derive(Clone, Copy)]
 pub struct Sum24 {
     pub value: u32,
@@ -21,10 +21,11 @@ pub fn add24(old: u32, v: u32) -> Sum24
     ensures value { result.value ≡ sum_of old v }
     ensures carry { result.carry ≡ carry_of old v }
 {
-    let s = (old as u64) + (v as u64);
+    let s = u64::from(old) + u64::from(v);
+    let modulus = u64::from(MODULUS);
     Sum24 {
-        value: (s % MODULUS) as u32,
-        carry: MODULUS <= s,
+        value: (s % modulus) as u32,
+        carry: modulus <= s,
     }
 }
 
@@ -44,6 +45,7 @@ pub fn set_bits(x: u32, w: u32) -> u32
 }
 
 // Selective clear: the bits that are 1 in w become 0, the others stay.
+#[tactic(auto, using(crate::proofs::BitLaws::and_not_word, crate::proofs::BitLaws::one_bit_word))]
 pub fn clear_bits(x: u32, w: u32) -> u32
     ensures { result ≡ clear_bits x w }
 {
@@ -67,6 +69,7 @@ pub fn with_bit(x: u32, a: u32) -> u32
 }
 
 // x with bit a cleared.
+#[tactic(auto, using(crate::proofs::BitLaws::and_not_word, crate::proofs::BitLaws::one_bit_word))]
 pub fn without_bit(x: u32, a: u32) -> u32
     requires { a < 32 }
     ensures { result ≡ clear_bits x (2 ^ a) }

@@ -2,14 +2,14 @@
 use Rattle.capi.proofs.CallLaws.{words-read, words-bad}
 use Rattle.capi.proofs.run_words.Goals as goal
 
-pub returns-in-Good : goal.returns-in-Good
-returns-in-Good c = words-read _ _ _ _
+pub returns-in-Ok : goal.returns-in-Ok
+returns-in-Ok c = words-read _ _ _ _
     c.requires
     c.read_step-reading.ensures _ _
-    c.in-Good.is
+    c.in-Ok.is
     c.run_step.ensures.step
 
-pub returns-in-Bad : goal.returns-in-Bad
-returns-in-Bad c = words-bad _ _ _ _ c.requires
-    c.read_step-reading.ensures _ _ c.in-Bad.is
+pub returns-in-Err : goal.returns-in-Err
+returns-in-Err c = words-bad _ _ _ _ c.requires
+    c.read_step-reading.ensures _ _ c.in-Err.is
     c.unless_unfit.ensures

@@ -2,5 +2,5 @@
 use Rattle.controller.proofs.Arms.{bad-done}
 use Rattle.controller.proofs.perform.Goals as goal
 
-pub returns-in-Bad : goal.returns-in-Bad
-returns-in-Bad c = let pair = bad-done _ _ c.requires _ _ c.in-Bad.is in record { buffer_value = pair.0; fit = pair.1 }
+pub returns-in-Err : goal.returns-in-Err
+returns-in-Err c = let pair = bad-done _ _ c.requires _ _ c.in-Err.is in record { done = pair.0; fit = pair.1 }

@@ -2,12 +2,12 @@
 use Rattle.controller.proofs.Arms.{refused-done, acted-done}
 use Rattle.controller.proofs.perform_step.Goals as goal
 
-pub returns-in-Refuse : goal.returns-in-Refuse
-returns-in-Refuse c = let pair = refused-done _ _ c.requires _ _ _
-    c.judge-verdict.ensures c.in-Refuse.is in record { buffer_value = pair.0; fit = pair.1 }
+pub returns-in-Err : goal.returns-in-Err
+returns-in-Err c = let pair = refused-done _ _ c.requires _ _ _
+    c.judge.ensures c.in-Err.is in record { done = pair.0; fit = pair.1 }
 
-pub returns-in-Fine : goal.returns-in-Fine
-returns-in-Fine c = let pair = acted-done _ _
+pub returns-in-Ok : goal.returns-in-Ok
+returns-in-Ok c = let pair = acted-done _ _
     c.requires _ _ _ _ _
-    c.judge-verdict.ensures
-    c.in-Fine.is c.act.ensures in record { buffer_value = pair.0; fit = pair.1 }
+    c.judge.ensures
+    c.in-Ok.is c.act.ensures in record { done = pair.0; fit = pair.1 }

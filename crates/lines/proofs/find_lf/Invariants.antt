@@ -5,13 +5,7 @@ use Rattle.lines.proofs.LfLaws.{Clear}
 use Rattle.lines.proofs.find_lf.Given as goal
 
 abbrev pub invariant-loop-i : goal.invariant-loop-i
-invariant-loop-i l = (l.from ≤ l.i) × (l.i ≤ length l.text) × Clear l.text l.from l.i
+invariant-loop-i l = record { from : l.from ≤ l.i; within : l.i ≤ length l.text; clear : Clear l.text l.from l.i }
 
 abbrev pub decreases-loop-i : goal.decreases-loop-i
 decreases-loop-i l = length l.text - l.i
-
-abbrev pub invariant-loop-i-2 : goal.invariant-loop-i-2
-invariant-loop-i-2 l = (l.from ≤ l.i) × (l.i ≤ length l.text) × Clear l.text l.from l.i
-
-abbrev pub decreases-loop-i-2 : goal.decreases-loop-i-2
-decreases-loop-i-2 l = length l.text - l.i

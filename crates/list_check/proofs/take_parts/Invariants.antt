@@ -2,5 +2,5 @@
 use Rattle.reader.specs.Reading.{Held}
 use Rattle.list_check.proofs.take_parts.Given as goal
 
-abbrev pub invariant-loop-i : goal.invariant-loop-i
-invariant-loop-i l = Held l.r l.line l.memory l.out
+abbrev pub invariant-loop : goal.invariant-loop
+invariant-loop l = Held l.r l.line l.memory l.out

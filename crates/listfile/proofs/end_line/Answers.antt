@@ -3,10 +3,6 @@ use native.Mathlib.Omega.{arith}
 use Rattle.listfile.proofs.ListingLaws.{line-stored}
 use Rattle.listfile.proofs.end_line.Goals as goal
 
-pub returns : goal.returns
-returns c = let entry = c.args in
-    let read = c.read_line-reading in record {
-      words_after = line-stored entry.line.now entry.words.now entry.s.fill entry.s.number _ _ (omega arith) read.ensures.value
-          c.write_reading.ensures;
-      held_2 = record { filled = omega arith; lined = omega arith; within = omega arith; room = omega arith };
-    }
+pub returns-clause-words_after : goal.returns-clause-words_after
+returns-clause-words_after c = let a = c.args in
+    line-stored a.line.now a.words.now a.s.fill a.s.number _ _ (omega arith) c.read_line-reading.ensures.value c.write_reading.ensures

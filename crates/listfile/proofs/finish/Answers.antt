@@ -8,19 +8,20 @@ use mathlib.Core.Path.{◌≡◌, sym, ◌∙◌}
 use Prim.Native.Nat.{◌<◌}
 use native.Mathlib.Omega.{arith}
 use Rattle.listfile.proofs.finish.Goals as goal
+use Rattle.listfile.proofs.finish.Goals.{then-s-ge-LINES-via-then-s-ge-LINES, then-s-ge-LINES-via-else-s-ge-LINES+then-s-eq0}
 
-pub returns-then-s-ge-LINES : goal.returns-then-s-ge-LINES
-returns-then-s-ge-LINES c = let a = c.args in record { words_after = sym (closed-shut storing (state_of a.s a.line.now a.words.now) (past (state_of a.s a.line.now a.words.now) c.if-s-ge-LINES.true)); held = c.requires }
+pub returns-then-s-ge-LINES-clause-words_after : goal.returns-then-s-ge-LINES-clause-words_after
+returns-then-s-ge-LINES-clause-words_after c = let a = c.args in
+    let s = state_of a.s a.line.now a.words.now in
+    elim c.then-s-ge-LINES.branch [
+      | then-s-ge-LINES-via-then-s-ge-LINES w ↦ sym (closed-shut storing s (past s w.if-s-ge-LINES.true))
+      | then-s-ge-LINES-via-else-s-ge-LINES+then-s-eq0 w ↦
+          let n : length (take a.s.fill a.line.now) ≡ 0 = rw (length-take-le a.s.fill a.line.now (omega arith)) w.if-s-eq0.true in
+          sym (closed_none storing s (taken s w.if-s-ge-LINES.false) n)
+    ]
 
-pub returns-then-s-eq0 : goal.returns-then-s-eq0
-returns-then-s-eq0 c = let a = c.args in
-    let n : length (take a.s.fill a.line.now) ≡ 0 = rw (length-take-le a.s.fill a.line.now (omega arith)) c.if-s-eq0.true in record { words_after = sym (closed_none storing (state_of a.s a.line.now a.words.now) (taken (state_of a.s a.line.now a.words.now) (omega arith)) n); held = c.requires }
-
-pub returns : goal.returns
-returns c = let a = c.args in
-    let some = c.if-s-eq0.false in
-    let n : 0 < length (take a.s.fill a.line.now) = rw (length-take-le a.s.fill a.line.now (omega arith)) (omega arith) in record {
-      words_after = c.end_line.ensures.words_after
-          ∙ sym (closed-end storing (state_of a.s a.line.now a.words.now) (taken (state_of a.s a.line.now a.words.now) (omega arith)) n);
-      held = c.end_line.ensures.held_2;
-    }
+pub returns-clause-words_after : goal.returns-clause-words_after
+returns-clause-words_after c = let a = c.args in
+    let s = state_of a.s a.line.now a.words.now in
+    let n : 0 < length (take a.s.fill a.line.now) = rw (length-take-le a.s.fill a.line.now (omega arith)) (omega arith) in
+    c.end_line.ensures.words_after ∙ sym (closed-end storing s (taken s (omega arith)) n)

@@ -8,14 +8,11 @@ use mathlib.Core.Path.{◌≡◌, refl, sym, ◌∙◌}
 use native.Mathlib.Omega.{arith}
 use Rattle.listfile.proofs.take_span.Goals as goal
 
-pub returns : goal.returns
-returns c = let a = c.args in
-    let pre = c.requires in
-    let kept = c.keep-next.ensures in
+pub returns-clause-state : goal.returns-clause-state
+returns-clause-state c = let a = c.args in
     let p = take a.s.fill a.line.now in
-    let len : length p ≡ a.s.fill = length-take-le a.s.fill a.line.now (omega arith) in record {
-      by_index = λ w.
-          let s = state_of a.s a.line.now w in
-          states kept.line_after refl refl ∙ sym (feed-span storing a.span.now s (taken s (omega arith)) (sym (take_all 81 p (omega arith))) pre.no_lf);
-      fill_bound_2 = (kept.upper_bound, refl);
-    }
+    let len : length p ≡ a.s.fill = length-take-le a.s.fill a.line.now (omega arith) in
+    λ w.
+    let s = state_of a.s a.line.now w in
+    states c.keep-fill.ensures.line refl refl
+    ∙ sym (feed-span storing a.span.now s (taken s (omega arith)) (sym (take_all 81 p (omega arith))) c.requires.no_lf)

@@ -4,21 +4,8 @@ use Rattle.lists.proofs.list_step.Goals as goal
 
 pub returns : goal.returns
 returns c = let entry = c.args in
-    let done = c.perform in record {
-      answer = (step-lent entry.memory.now entry.steps.now entry.k entry.buffers.now entry.q
-          c.requires.fit_crate
-          c.read_step-reading.result done.new.memory done.result done.new.buffer
-          c.read_step-reading.ensures done.ensures.buffer_value done.ensures.fit).0;
-      memory = (step-lent entry.memory.now entry.steps.now entry.k entry.buffers.now entry.q
-          c.requires.fit_crate
-          c.read_step-reading.result done.new.memory done.result done.new.buffer
-          c.read_step-reading.ensures done.ensures.buffer_value done.ensures.fit).1.0;
-      buffers = (step-lent entry.memory.now entry.steps.now entry.k entry.buffers.now entry.q
-          c.requires.fit_crate
-          c.read_step-reading.result done.new.memory done.result done.new.buffer
-          c.read_step-reading.ensures done.ensures.buffer_value done.ensures.fit).1.1.0;
-      fit = (step-lent entry.memory.now entry.steps.now entry.k entry.buffers.now entry.q
-          c.requires.fit_crate
-          c.read_step-reading.result done.new.memory done.result done.new.buffer
-          c.read_step-reading.ensures done.ensures.buffer_value done.ensures.fit).1.1.1;
-    }
+    let done = c.perform in
+    let lent = step-lent entry.memory.now entry.steps.now entry.k entry.buffers.now entry.q c.requires.fit_crate
+    c.read_step-reading.result done.new.memory done.result done.new.buffer
+    c.read_step-reading.ensures done.ensures.done done.ensures.fit in
+    record { answer = lent.0; memory = lent.1.0; buffers = lent.1.1.0; fit = lent.1.1.1 }

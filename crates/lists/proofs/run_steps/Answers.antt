@@ -16,7 +16,7 @@ loop-k-preserved c = let entry = c.args in
     let told = c.write_answer in (
       omega (arith, loop-test),
       running_more entry.memory.now entry.steps.now entry.answers.now entry.buffers.now loop.memory loop.answers loop.buffers entry.count
-          loop.k pre.count_in_bounds.1 pre.count_in_bounds.2 (omega (arith, loop-test)) loop.invariant.1 done.new.memory done.result done.new.buffers told.new.out
+          loop.k pre.room.1 pre.room.2 (omega (arith, loop-test)) loop.invariant.1 done.new.memory done.result done.new.buffers told.new.out
           done.ensures.answer done.ensures.memory done.ensures.buffers done.ensures.fit done.auto.buffers told.ensures
           told.auto.out,
     )

@@ -10,16 +10,17 @@ use Prim.Native.Nat.{◌+◌, ◌-◌}
 use native.Mathlib.Omega.{arith}
 use Rattle.reader.proofs.chunk_lines.Goals as goal
 
-pub returns-then-e-text : goal.returns-then-e-text
-returns-then-e-text c = let a = c.args in
+pub returns-then-e-text-clause-out_after : goal.returns-then-e-text-clause-out_after
+returns-then-e-text-clause-out_after c = let a = c.args in
     let l = c.loop-i in
-    let e = c.find_lf-e.result in
-    let s₀ = state_of a.s a.line.now a.memory.now a.out.now in record { out_after = fed-span rehearsing s₀ a.text.now _ l.i l.invariant.8 e _ (omega arith) (c.take_span-r.ensures.by_index l.memory l.out); held = record { filled = omega arith; lined = omega arith; within = omega arith; fit = l.invariant.6 }; next_in_bounds = omega arith; next_nonzero = λ h k. omega arith }
+    fed-span rehearsing (state_of a.s a.line.now a.memory.now a.out.now) a.text.now _ l.i l.invariant.fed c.find_lf-e.result _ (omega arith)
+    (c.take_span-r.ensures.state l.memory l.out)
 
-pub take_line-r-requires : goal.take_line-r-requires
-take_line-r-requires c = let entry = c.args in
-    let loop = c.loop-i in
-    let found = c.find_lf-e in record { ready = record { filled = omega arith; lined = omega arith; room = omega arith; fit = loop.invariant.6 }; next_lf = next-in-rest entry.text.now loop.i found.result found.ensures; n_in_bounds = omega (arith, length_rest entry.text.now loop.i) }
+pub take_line-r-requires-clause-next_lf : goal.take_line-r-requires-clause-next_lf
+take_line-r-requires-clause-next_lf c = next-in-rest c.args.text.now c.loop-i.i c.find_lf-e.result c.find_lf-e.ensures
+
+pub take_line-r-requires-clause-n_bound : goal.take_line-r-requires-clause-n_bound
+take_line-r-requires-clause-n_bound c = omega (arith, length_rest c.args.text.now c.loop-i.i)
 
 pub loop-i-preserved : goal.loop-i-preserved
 loop-i-preserved c = let a = c.args in
@@ -28,16 +29,17 @@ loop-i-preserved c = let a = c.args in
     let e = c.find_lf-e.result in
     let d = c.take_line-r.ensures in
     let rest = take (length a.text.now - l.i) (drop l.i a.text.now) in
-    let s₀ = state_of a.s a.line.now a.memory.now a.out.now in (
-      omega arith,
-      d.held.lined ∙ sym pre.lined,
-      d.held.fit.size ∙ sym pre.fit.size,
-      c.take_line-r.auto.out ∙ l.invariant.3,
-      d.held.filled,
-      d.held.within,
-      d.held.fit,
-      λ h. omega arith,
-      d.out_after
-          ∙ ap (λ (s : State). feed rehearsing s (take (e - l.i + 1) rest)) l.invariant.8
-          ∙ sym (fed-line s₀ a.text.now l.i e (omega arith) (omega arith)),
-    )
+    let s₀ = state_of a.s a.line.now a.memory.now a.out.now in
+    record {
+      reached = omega arith;
+      line_len = d.held.lined ∙ sym pre.lined;
+      memory_len = d.held.fit.size ∙ sym pre.fit.size;
+      out_len = c.take_line-r.auto.out ∙ l.invariant.out_len;
+      filled = d.held.filled;
+      within = d.held.within;
+      fit = d.held.fit;
+      unprinted = λ h. omega arith;
+      fed = d.out_after
+          ∙ ap (λ (s : State). feed rehearsing s (take (e - l.i + 1) rest)) l.invariant.fed
+          ∙ sym (fed-line s₀ a.text.now l.i e (omega arith) (omega arith));
+    }

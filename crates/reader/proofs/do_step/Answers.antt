@@ -11,8 +11,8 @@ pub returns : goal.returns
 returns c = let a = c.args in
     let done = c.perform-answer in
     let put = c.put_step-at.ensures in record {
-      by_index = λ l. states refl refl refl refl refl (put_front put (omega arith))
-          ∙ sym (ap (λ (p : Performed). next (after_step p) (state_of a.s l a.memory.now a.out.now)) done.ensures.buffer_value);
-      fill_value = (refl, put-within put (omega arith));
-      fit_crate_2 = done.ensures.fit;
+      state = λ l. states refl refl refl refl refl (put_front put (omega arith))
+          ∙ sym (ap (λ (p : Performed). next (after_step p) (state_of a.s l a.memory.now a.out.now)) done.ensures.done);
+      counts = (refl, put-within put (omega arith));
+      fit = done.ensures.fit;
     }

@@ -1,12 +1,22 @@
 -- `end_line` meets its contract: the phase says which file a line is of.
+use mathlib.Core.Path.{◌≡◌, refl, sym, ◌∙◌}
+use denote.Enum.Bare.{sameb}
+use Rattle.reader.specs.contracts.Phase.{the_type}
+use Rattle.reader.specs.declared.Phase.{Phase}
+use Rattle.reader.specs.declared.Phase.TheVariants.{CrateFile, RunFile, Ended}
+use Rattle.reader.specs.Reading.{reads_run}
 use Rattle.reader.proofs.ReadingLaws.{run-answered, module-answered}
-use mathlib.Core.Path.{◌∙◌}
 use Rattle.reader.proofs.end_line.Goals as goal
 
-pub returns-then-s-eq1 : goal.returns-then-s-eq1
-returns-then-s-eq1 c = let if1 = c.if-s-eq1 in
-    let ended = c.end_run_line in record { out_after = ended.ensures.out_after ∙ run-answered _ if1.true; held = ended.ensures.held }
+of-run : (p : Phase) → sameb the_type p RunFile ≡ reads_run p
+of-run CrateFile = refl
+of-run RunFile = refl
+of-run Ended = refl
 
-pub returns : goal.returns
-returns c = let if1 = c.if-s-eq1 in
-    let ended = c.end_module_line in record { out_after = ended.ensures.out_after ∙ module-answered _ if1.false; held = ended.ensures.held }
+pub returns-then-eq-clause-out_after : goal.returns-then-eq-clause-out_after
+returns-then-eq-clause-out_after c =
+    c.end_run_line.ensures.out_after ∙ run-answered _ (sym (of-run c.args.s.phase) ∙ sym c.eq.ensures ∙ c.if-eq.true)
+
+pub returns-else-eq-clause-out_after : goal.returns-else-eq-clause-out_after
+returns-else-eq-clause-out_after c =
+    c.end_module_line.ensures.out_after ∙ module-answered _ (sym (of-run c.args.s.phase) ∙ sym c.eq.ensures ∙ c.if-eq.false)

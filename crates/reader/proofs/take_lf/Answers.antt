@@ -1,14 +1,12 @@
 -- `take_lf` meets its contract: where lines are still read, an LF ends the line; elsewhere it changes nothing.
-use native.Mathlib.Omega.{arith}
-use mathlib.Core.Path.{refl, ◌∙◌}
-use Rattle.reader.proofs.ReadingLaws.{step-over, step-stop, step_end}
+use mathlib.Core.Path.{refl, sym, ◌∙◌}
+use Rattle.lines.proofs.CuttingLaws.{step-shut, step_end}
+use Rattle.reader.specs.Reading.{rehearsing}
 use Rattle.reader.proofs.take_lf.Goals as goal
 
-pub returns-then-s-ge-LINES : goal.returns-then-s-ge-LINES
-returns-then-s-ge-LINES c = record { out_after = step-over _ 10 c.if-s-ge-LINES.true; held = record { filled = omega arith; lined = omega arith; within = omega arith; fit = c.requires.fit } }
+pub returns-then-takes_lines-clause-out_after : goal.returns-then-takes_lines-clause-out_after
+returns-then-takes_lines-clause-out_after c =
+    c.end_line.ensures.out_after ∙ sym (step_end rehearsing _ 10 (sym c.takes_lines.ensures ∙ c.if-takes_lines.true) refl)
 
-pub returns-then-s-ge2 : goal.returns-then-s-ge2
-returns-then-s-ge2 c = record { out_after = step-stop _ 10 (omega arith) c.if-s-ge2.true; held = record { filled = omega arith; lined = omega arith; within = omega arith; fit = c.requires.fit } }
-
-pub returns : goal.returns
-returns c = let d = c.end_line.ensures in record { out_after = d.out_after ∙ step_end _ 10 (omega arith) (omega arith) refl; held = d.held }
+pub returns-else-takes_lines-clause-out_after : goal.returns-else-takes_lines-clause-out_after
+returns-else-takes_lines-clause-out_after c = sym (step-shut rehearsing _ 10 (sym c.takes_lines.ensures ∙ c.if-takes_lines.false))

@@ -14,11 +14,11 @@ pub put_numbers-requires : goal.put_numbers-requires
 put_numbers-requires c = let a = c.args in
     omega (arith, after-field (bytes "refused=") a.q c.put_field-next.ensures)
 
-pub returns-in-Nowhere : goal.returns-in-Nowhere
-returns-in-Nowhere c = let a = c.args in line_as (field "refused=" a.q) c.in-Nowhere.is (put-nothing a.out.now a.at)
+pub returns-in-None : goal.returns-in-None
+returns-in-None c = let a = c.args in line_as (field "refused=" a.q) c.in-None.is (put-nothing a.out.now a.at)
 
-pub returns-in-At : goal.returns-in-At
-returns-in-At c = let a = c.args in
-    let parts = c.in-At.is in
+pub returns-in-Some : goal.returns-in-Some
+returns-in-Some c = let a = c.args in
+    let parts = c.in-Some.is in
     let name = c.put_field-next.ensures in
     line_as (field "refused=" a.q) parts (put_then name c.put_numbers.ensures (omega arith))

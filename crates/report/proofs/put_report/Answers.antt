@@ -1,13 +1,9 @@
--- `put_report` meets its contract: the lists are the same (`report-same`), or part at a first watch (`report-parted`).
+-- `put_report` meets its contract: the lists part nowhere (`report-same`), or at a first watch (`report-parted`).
 use Rattle.report.proofs.ReportLaws.{report-same, report-parted}
 use Rattle.report.proofs.put_report.Goals as goal
 
-pub returns-in-Same : goal.returns-in-Same
-returns-in-Same c = let compared = c.compare-v.ensures in
-    report-same c.in-Same.is compared c.put_bytes.ensures
+pub returns-in-None : goal.returns-in-None
+returns-in-None c = report-same c.in-None.is c.compare.ensures c.put_bytes.ensures
 
-pub returns-in-Parted : goal.returns-in-Parted
-returns-in-Parted c = let parted = c.in-Parted.is in
-    let compared = c.compare-v.ensures in
-    let lines = c.put_lines-at.ensures in
-    report-parted parted compared lines c.put_bytes-in-Parted.ensures
+pub returns-in-Some : goal.returns-in-Some
+returns-in-Some c = report-parted _ c.in-Some.is c.compare.ensures c.put_lines-at.ensures c.put_bytes-in-Some.ensures

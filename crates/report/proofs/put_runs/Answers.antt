@@ -5,14 +5,14 @@ use Rattle.report.proofs.HeardLaws.{heard-start, heard-next, heard_all}
 use Rattle.report.proofs.put_runs.Goals as goal
 
 pub loop-k-init : goal.loop-k-init
-loop-k-init c = let p = c.requires.le_from in
-    (omega arith, omega (arith, p.1), refl, heard-start c.args.out.now p.0 p.2 refl)
+loop-k-init c = let p = c.requires.none_before in
+    (refl, heard-start c.args.out.now p.0 p.2 refl)
 
 pub loop-k-preserved : goal.loop-k-preserved
 loop-k-preserved c = let i = c.loop-k.invariant in
-    let more = heard-next i.3 c.parting_of-x.ensures c.take_station-last.ensures in
-    (omega (arith, i.0), omega (arith, c.loop-k-test.true), omega (arith, i.2), more)
+    let more = heard-next i.1 c.parting_of.ensures c.take_station-last.ensures in
+    (omega (arith, i.0), more)
 
 pub returns : goal.returns
 returns c = let i = c.loop-k.invariant in
-    heard_all (omega (arith, i.1, c.loop-k-test.false)) i.3 c.put_run.ensures
+    heard_all (omega arith) i.1 c.put_run.ensures

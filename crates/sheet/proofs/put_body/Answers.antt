@@ -1,5 +1,6 @@
 -- `put_body` meets its contract: each arm puts the body of the answer that it matched.
 use Prim.Native.Nat.{ℕ}
+use mathlib.Core.Logic.{inl, inr}
 use mathlib.Core.Path.{ap}
 use native.Mathlib.Omega.{arith}
 use Rattle.text.specs.Text.{field}
@@ -17,6 +18,10 @@ put_field-requires-in-Listed c = field_room _ _ _ _ (omega arith)
 pub put_field-requires-in-Refused : goal.put_field-requires-in-Refused
 put_field-requires-in-Refused c = omega (arith, length-ten c.refusal_number.result)
 
+pub returns-in-Replied : goal.returns-in-Replied
+unfolding body
+returns-in-Replied c = of-answer c.in-Replied.is c.put_three.ensures
+
 pub returns-in-Taken : goal.returns-in-Taken
 unfolding body
 returns-in-Taken c = of-answer c.in-Taken.is c.put_field.ensures
@@ -25,9 +30,15 @@ pub returns-in-Done : goal.returns-in-Done
 unfolding body
 returns-in-Done c = of-answer c.in-Done.is c.put_bytes.ensures
 
-pub returns-in-Wrote : goal.returns-in-Wrote
+pub returns-in-Looked : goal.returns-in-Looked
 unfolding body
-returns-in-Wrote c = of-answer c.in-Wrote.is c.put_transfer-in-Wrote.ensures
+returns-in-Looked c = of-answer c.in-Looked.is c.put_three-in-Looked.ensures
+
+pub returns-in-Transferred : goal.returns-in-Transferred
+unfolding body
+returns-in-Transferred c =
+    let put = c.put_three-in-Transferred.ensures in
+    elim c.in-Transferred.is [ inl e ↦ of-answer e put | inr e ↦ of-answer e put ]
 
 pub returns-in-Listed : goal.returns-in-Listed
 unfolding body

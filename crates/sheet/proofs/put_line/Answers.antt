@@ -10,7 +10,7 @@ pub put_body-last-requires : goal.put_body-last-requires
 put_body-last-requires c = omega (
   arith,
   after-field (bytes "step=") c.args.k
-      c.put_number-next.ensures,
+      c.put_keyed-next.ensures,
 )
 
 pub put_bytes-requires : goal.put_bytes-requires
@@ -18,7 +18,7 @@ put_bytes-requires c = omega (
   arith,
   after-field (bytes "step=")
       c.args.k
-      c.put_number-next.ensures,
+      c.put_keyed-next.ensures,
   put-end 50 c.put_body-last.ensures
       (body-short c.args.answer),
 )
@@ -26,11 +26,11 @@ put_bytes-requires c = omega (
 pub returns : goal.returns
 unfolding step_line
 returns c = put_then
-    (put_then c.put_number-next.ensures
+    (put_then c.put_keyed-next.ensures
     c.put_body-last.ensures (omega arith)) c.put_bytes.ensures
     (omega (
       arith,
       after-field (bytes "step=")
           c.args.k
-          c.put_number-next.ensures,
+          c.put_keyed-next.ensures,
     ))

@@ -1,14 +1,8 @@
--- `put_words` meets its contract: after i turns the lines of the first i words were put.
-use Prim.Native.Nat.{◌-◌, ◌≤◌}
-use mathlib.Core.Path.{◌≡◌}
-use lib.ListN.{length, take}
+-- `put_words` meets its contract: the lines of the words before the present one were put.
+use lib.ListN.{take}
 use Rattle.sheet.specs.Answers.{word_lines}
 use Rattle.text.specs.Paste.{Put}
 use Rattle.sheet.proofs.put_words.Given as goal
 
-abbrev pub invariant-loop-i : goal.invariant-loop-i
-invariant-loop-i l = (length l.out ≡ length l.initial.out) × (l.i ≤ length l.words) ×
-    (Put l.initial.out l.at (word_lines (take l.i l.words)) l.out l.next)
-
-abbrev pub decreases-loop-i : goal.decreases-loop-i
-decreases-loop-i l = length l.words - l.i
+abbrev pub invariant-loop-w : goal.invariant-loop-w
+invariant-loop-w l = Put l.initial.out l.at (word_lines (take l.w-index l.words)) l.out l.next

@@ -8,4 +8,4 @@ use Rattle.shell.proofs.make_room.Goals as goal
 pub returns-clause-took : goal.returns-clause-took
 returns-clause-took g c =
     let sent = take c.args.s.at c.args.out.now in
-    λ e. record { sent = sent; same = states refl refl refl refl refl (sym (append-nil sent)) }
+    record { sent = sent; same = states refl refl refl refl refl (sym (append-nil sent)) }

@@ -1,6 +1,5 @@
 -- A turn with room takes some bytes more: these follow those that were taken before.
 use native.Mathlib.Omega.{arith}
-use borrow.Author.Tests.{not-false}
 use Rattle.reader.proofs.Whole.{took-both, took-as, took-kept}
 use Rattle.shell.proofs.HandedLaws.{rest, pieces}
 use Rattle.shell.proofs.take_text.Goals as goal
@@ -12,5 +11,5 @@ loop-from-preserved g c =
       within = omega (arith, rest c.args.text.now c.loop-from.from);
       held = chunk.ensures.held;
       took = took-as (pieces c.args.text.now c.loop-from.from chunk.result.next (omega (arith, rest c.args.text.now c.loop-from.from)))
-          (took-both (took-both c.loop-from.invariant.took (c.make_room-room.ensures.took (not-false c.make_room-room.result.ok c.if-not-room.false))) (took-kept chunk.ensures.out_after));
+          (took-both (took-both c.loop-from.invariant.took c.in_ok-room.ensures.took) (took-kept chunk.ensures.out_after));
     }

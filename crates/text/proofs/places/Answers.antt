@@ -1,5 +1,4 @@
 -- `text::places` meets its contract: each arm has the numbers of so many digits.
-use Prim.Native.Nat.{◌≤◌, ◌<◌}
 use mathlib.Core.Path.{sym, ap}
 use native.Mathlib.Omega.{arith}
 use lib.ListN.{length}
@@ -10,46 +9,28 @@ pub returns-in-0-to-9 : goal.returns-in-0-to-9
 returns-in-0-to-9 c = sym (ap length (decimal-one c.args.n (omega arith)))
 
 pub returns-in-10-to-99 : goal.returns-in-10-to-99
-returns-in-10-to-99 c = let low : 10 ≤ c.args.n = omega arith in
-    let high : c.args.n < 100 = omega arith in
-    sym (length-between 0 c.args.n low high (omega arith))
+returns-in-10-to-99 c = sym (length-between 0 c.args.n (omega arith) (omega arith) (omega arith))
 
 pub returns-in-100-to-999 : goal.returns-in-100-to-999
-returns-in-100-to-999 c = let low : 100 ≤ c.args.n = omega arith in
-    let high : c.args.n < 1000 = omega arith in
-    sym (length-between 1 c.args.n low high (omega arith))
+returns-in-100-to-999 c = sym (length-between 1 c.args.n (omega arith) (omega arith) (omega arith))
 
 pub returns-in-1000-to-9999 : goal.returns-in-1000-to-9999
-returns-in-1000-to-9999 c = let low : 1000 ≤ c.args.n = omega arith in
-    let high : c.args.n < 10000 = omega arith in
-    sym (length-between 2 c.args.n low high (omega arith))
+returns-in-1000-to-9999 c = sym (length-between 2 c.args.n (omega arith) (omega arith) (omega arith))
 
 pub returns-in-10000-to-99999 : goal.returns-in-10000-to-99999
-returns-in-10000-to-99999 c = let low : 10000 ≤ c.args.n = omega arith in
-    let high : c.args.n < 100000 = omega arith in
-    sym (length-between 3 c.args.n low high (omega arith))
+returns-in-10000-to-99999 c = sym (length-between 3 c.args.n (omega arith) (omega arith) (omega arith))
 
 pub returns-in-100000-to-999999 : goal.returns-in-100000-to-999999
-returns-in-100000-to-999999 c = let low : 100000 ≤ c.args.n = omega arith in
-    let high : c.args.n < 1000000 = omega arith in
-    sym (length-between 4 c.args.n low high (omega arith))
+returns-in-100000-to-999999 c = sym (length-between 4 c.args.n (omega arith) (omega arith) (omega arith))
 
 pub returns-in-1000000-to-9999999 : goal.returns-in-1000000-to-9999999
-returns-in-1000000-to-9999999 c = let low : 1000000 ≤ c.args.n = omega arith in
-    let high : c.args.n < 10000000 = omega arith in
-    sym (length-between 5 c.args.n low high (omega arith))
+returns-in-1000000-to-9999999 c = sym (length-between 5 c.args.n (omega arith) (omega arith) (omega arith))
 
 pub returns-in-10000000-to-99999999 : goal.returns-in-10000000-to-99999999
-returns-in-10000000-to-99999999 c = let low : 10000000 ≤ c.args.n = omega arith in
-    let high : c.args.n < 100000000 = omega arith in
-    sym (length-between 6 c.args.n low high (omega arith))
+returns-in-10000000-to-99999999 c = sym (length-between 6 c.args.n (omega arith) (omega arith) (omega arith))
 
 pub returns-in-100000000-to-999999999 : goal.returns-in-100000000-to-999999999
-returns-in-100000000-to-999999999 c = let low : 100000000 ≤ c.args.n = omega arith in
-    let high : c.args.n < 1000000000 = omega arith in
-    sym (length-between 7 c.args.n low high (omega arith))
+returns-in-100000000-to-999999999 c = sym (length-between 7 c.args.n (omega arith) (omega arith) (omega arith))
 
 pub returns-in_default : goal.returns-in_default
-returns-in_default c = let low : 1000000000 ≤ c.args.n = omega arith in
-    let high : c.args.n < 10000000000 = omega arith in
-    sym (length-between 8 c.args.n low high (omega arith))
+returns-in_default c = sym (length-between 8 c.args.n (omega arith) (omega arith) (omega arith))

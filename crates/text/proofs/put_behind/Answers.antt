@@ -11,7 +11,7 @@ pub returns-then-gap-k-ge8 : goal.returns-then-gap-k-ge8
 returns-then-gap-k-ge8 c = let a = c.args in
     let k = c.places-k in
     let start = a.at + a.gap + k.result - 8 in
-    let text = c.put_eight.ensures ∙ ap (pasted a.out.now start) c.eight_digits.ensures.zeros_value in
+    let text = c.put_eight.ensures ∙ ap (pasted a.out.now start) c.eight_digits.ensures.digits in
     let short = length-eight a.n c.if-n-lt100000000.true in
     digits-behind 8 start text (omega arith) short (omega arith) (omega arith) (omega arith) (omega arith)
 

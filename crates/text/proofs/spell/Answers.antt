@@ -6,7 +6,7 @@ use mathlib.Core.List.{List}
 use native.Mathlib.Nat.{not-suc-le-zero}
 use native.Mathlib.Numerals.{sub-one}
 use native.Mathlib.Omega.{arith}
-use lib.ListN.{length, set, length-set}
+use lib.ListN.{length, set}
 use Rattle.text.specs.Digits.{digits}
 use Rattle.text.specs.Paste.{pasted}
 use Rattle.text.proofs.Decimal.{length_digits}
@@ -26,13 +26,11 @@ done : (out : List ℕ) (at i rest : ℕ) → i ≡ 0 → out ≡ pasted out at 
 done out at i rest e = rw e (sym (paste-nothing out at))
 
 pub loop-i-preserved : goal.loop-i-preserved
-loop-i-preserved c = let l = c.loop-i in
-    let a = c.args in (
-      simp length-set l.invariant.0,
-      omega arith,
-      stored l.out a.at l.i l.rest (omega arith) (omega arith) ∙ l.invariant.2,
-    )
+loop-i-preserved c =
+    let l = c.loop-i in
+    stored l.out c.args.at l.i l.rest (omega arith) (omega arith) ∙ l.invariant
 
 pub returns : goal.returns
-returns c = let l = c.loop-i in
-    done l.out c.args.at l.i l.rest (omega arith) ∙ l.invariant.2
+returns c =
+    let l = c.loop-i in
+    done l.out c.args.at l.i l.rest (omega arith) ∙ l.invariant

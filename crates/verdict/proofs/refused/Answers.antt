@@ -1,29 +1,17 @@
--- `refused` meets its contract. The loop's invariant: so many of the first i steps are refused.
--- Assumes nothing.
-use mathlib.Core.Path.{sym}
-use Prim.Native.Nat.{◌+◌}
-use native.Mathlib.Omega.{arith}
-use Rattle.verdict.proofs.Walks.{refused-more, refused_none, refused-few}
+-- `refused` meets its contract: the places that are counted are those whose steps are refused.
+use mathlib.Core.Path.{refl, ◌∙◌}
+use Rattle.std.proofs.Common.{arith, rules, tests}
+use Rattle.std.proofs.lemmas.Iterator.{YieldsList-from_range}
+use Rattle.std.proofs.lemmas.Iterator.Consumers.{count_from_yields_List, YieldsList-from_filter, YieldsList-at}
+use Rattle.std.specs.Prelude.{is_err}
+use Rattle.verdict.specs.Counted.{step_at, count}
+use Rattle.verdict.proofs.Walks.{refused_places}
 use Rattle.verdict.proofs.refused.Goals as goal
 
-pub loop-i-init : goal.loop-i-init
-loop-i-init c = (omega arith, sym (refused_none c.args.words.now))
-
-pub overflow_add-many : goal.overflow_add-many
-overflow_add-many c = let loop = c.loop-i in
-    let words = c.args.words.now in
-    let i = loop.i in
-    omega (
-      arith,
-      refused-few words i,
-      refused-few words (i + 1),
-      refused-more words i,
-      c.refused_at-many.ensures,
-      loop.invariant.1,
-      c.well_formed,
-    )
-
-pub loop-i-preserved : goal.loop-i-preserved
-loop-i-preserved c = let loop = c.loop-i in
-    let i = loop.i in
-    (omega arith, omega (arith, refused-more c.args.words.now i, c.refused_at-many.ensures, loop.invariant.1))
+pub returns : goal.returns
+returns c = let ws = c.args.words.now in
+    count_from_yields_List _ _ c.count.ensures.ran
+    (YieldsList-from_filter _ (λ i. is_err (step_at ws i))
+    (YieldsList-at c.filter.ensures.source (YieldsList-from_range 0 (count ws) (count ws) refl (omega arith)))
+    c.filter.ensures.closure (λ x r q k. (search rules, search (rules, tests))))
+    ∙ refused_places ws (count ws)

@@ -3,5 +3,5 @@
 use Rattle.verdict.proofs.CountedLaws.{see-refused}
 use Rattle.verdict.proofs.sees.Goals as goal
 
-pub returns-in-Bad : goal.returns-in-Bad
-returns-in-Bad c = see-refused _ _ _ _ c.in-Bad.is c.refusal_number.ensures
+pub returns-in-Err : goal.returns-in-Err
+returns-in-Err c = see-refused _ _ _ _ c.in-Err.is c.refusal_number.ensures

@@ -1,12 +1,7 @@
--- `walk_all` meets its contract: the watches below k see the same (`Below`), and where watch k parts no rearrangement is left.
--- Assumes nothing.
-use native.Mathlib.Omega.{arith}
-use Rattle.verdict.proofs.Walks.{compared_same, compared-parted}
+-- `walk_all` meets its contract: the watches before the one that is found see the same, and where it parts no rearrangement is left.
+use Rattle.std.proofs.Common.{rules}
+use Rattle.verdict.proofs.Walks.{compared_found}
 use Rattle.verdict.proofs.walk_all.Goals as goal
 
-pub returns-in-Parted : goal.returns-in-Parted
-returns-in-Parted c = compared-parted _ _ _ _ _ _ _ c.loop-k.invariant.2 c.in-Parted.is
-    c.walk-v.ensures
-
 pub returns : goal.returns
-returns c = compared_same _ _ c.loop-k.k (omega (arith, c.loop-k-test.false)) c.loop-k.invariant.2
+returns c = compared_found _ _ _ _ (λ a r q h. search rules) (λ k v q h. search rules) _ _ c.new.ensures.start c.new.ensures.end c.new.ensures.exhausted c.find_map.ensures.runs

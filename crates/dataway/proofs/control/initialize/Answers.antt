@@ -1,34 +1,29 @@
--- `initialize` meets its contract. The loop's invariant: stations 1 to k are initialized. The memory stays fit (`each-fit`), so that the next station's
--- block is; and then Inhibit is set, and the Station Number Register emptied.
-use Prim.Native.Nat.{ℕ, ◌+◌}
+-- `initialize` meets its contract: each station's block is lent in turn.
+use Prim.Native.Nat.{ℕ, ◌-◌}
 use mathlib.Core.List.{List}
 use mathlib.Core.Path.{◌≡◌, ap}
 use native.Mathlib.Omega.{arith}
 use lib.ListN.{set}
-use Rattle.dataway.proofs.ControlLaws.{each-fit, each_more, each_none}
+use Rattle.dataway.proofs.StationLaws.{fit_lent, block_lent}
+use Rattle.dataway.proofs.ControlLaws.{each_so_far, each_more, each_none}
 use Rattle.dataway.specs.Controls.{after_z}
-use Rattle.dataway.specs.Crate.{FitCrate}
 use Rattle.station.specs.Control.{initialized_of}
 use Rattle.station.proofs.ControlLaws.{initialized-kept}
 use Rattle.dataway.proofs.control.initialize.Goals as goal
 
-pub loop-k-init : goal.loop-k-init
-loop-k-init c = (omega arith, each_none (λ n. initialized_of) _)
+pub loop-n-init : goal.loop-n-init
+loop-n-init c = each_none (λ n. initialized_of) _
 
-pub initialize_station-requires : goal.initialize_station-requires
-initialize_station-requires c = let f : FitCrate c.loop-k.memory = rw c.loop-k.invariant.1
-    (each-fit (λ n. initialized_of) (λ n. initialized-kept) c.args.memory.now c.requires
-    c.loop-k.k c.loop-k.invariant.0) in record { fact_1 = f.size; fact_2 = omega arith; fact_3 = f.station (c.loop-k.k + 1) (omega arith) (omega arith) }
+pub initialize-requires : goal.initialize-requires
+initialize-requires c =
+    let fit = each_so_far (λ n. initialized_of) (λ n. initialized-kept) _ c.requires c.loop-n.n _ (omega arith) c.loop-n.invariant in
+    fit_lent _ _ _ _ c.block.ensures.start c.block.ensures.end fit (omega arith) (omega arith)
 
-pub loop-k-preserved : goal.loop-k-preserved
-loop-k-preserved c = (
-  omega arith,
-  each_more (λ n. initialized_of) (λ n. initialized-kept) c.args.memory.now
-      c.requires c.loop-k.k
-      c.loop-k.memory c.initialize_station.new.memory (omega arith)
-      c.loop-k.invariant.1 c.initialize_station.ensures,
-)
+pub loop-n-preserved : goal.loop-n-preserved
+loop-n-preserved c =
+    each_more (λ n. initialized_of) (λ n. initialized-kept) _ c.requires c.loop-n.n _ _ (omega arith) (omega arith) c.loop-n.invariant
+    (block_lent _ _ _ _ c.block.ensures.start c.block.ensures.end initialized_of _ c.initialize.ensures)
 
 pub returns : goal.returns
 unfolding after_z
-returns c = let e : c.loop-k.k ≡ 23 = omega arith in ap (λ (l : List ℕ). set (set l 0 1) 1 0) (rw e at c.loop-k.invariant.1)
+returns c = let all : c.loop-n.n - 1 ≡ 23 = omega arith in ap (λ (l : List ℕ). set (set l 0 1) 1 0) (rw all at c.loop-n.invariant)

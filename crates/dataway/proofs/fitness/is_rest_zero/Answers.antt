@@ -1,20 +1,14 @@
--- `is_rest_zero` meets its contract. The loop's invariant: the words passed are zero.
-use mathlib.Core.Path.{sym}
-use native.Mathlib.Omega.{arith}
-use borrow.Author.Tests.{eq-eqb, ne_eqb}
-use Rattle.dataway.specs.Crate.{is_fit_rest}
-use Rattle.kinds.proofs.TestLaws.{every_more, every-false}
+-- `is_rest_zero` meets its contract: `all` makes the test of each word.
+use mathlib.Core.Path.{◌∙◌}
+use borrow.Author.Rules.{rules}
+use borrow.Author.Tests.{tests}
+use lib.Dec.{eqb}
+use Rattle.std.proofs.lemmas.Iterator.{YieldsList-from_slice}
+use Rattle.std.proofs.lemmas.Iterator.Search.{all_from_yields_List}
+use Rattle.dataway.proofs.EveryLaws.{all-rest}
 use Rattle.dataway.proofs.fitness.is_rest_zero.Goals as goal
 
-pub returns-then-memory-i-ne0 : goal.returns-then-memory-i-ne0
-unfolding is_fit_rest
-returns-then-memory-i-ne0 c = sym (every-false 30 (is_fit_rest c.args.memory.now) c.loop-i.i
-    (omega arith) (ne_eqb _ _ c.if-memory-i-ne0.true))
-
-pub loop-i-preserved : goal.loop-i-preserved
-unfolding is_fit_rest
-loop-i-preserved c = (
-  omega arith,
-  every_more c.loop-i.i (is_fit_rest c.args.memory.now)
-      c.loop-i.invariant.1 (eq-eqb _ _ c.if-memory-i-ne0.false),
-)
+pub returns : goal.returns
+returns c =
+    all_from_yields_List (λ x. eqb x 0) _ _ _ c.all.ensures.ran (YieldsList-from_slice _ c.iter.ensures.rest) (λ x b q k. search (rules, tests))
+    ∙ all-rest c.args.memory.now c.requires

@@ -1,4 +1,4 @@
--- `clear` meets its contract. The loop's invariant: F9 has been done at each A below a. The block stays fit and keeps its r (`cleared-below-kept`), as F9 asks.
+-- `clear` meets its contract: before the first turn nothing is done, and each turn is F9 at one A more.
 use native.Mathlib.Omega.{arith}
 use Rattle.station.proofs.ControlLaws.{cleared-below-kept, cleared-none, cleared_more}
 use Rattle.station.proofs.KindTable.{count-few}
@@ -6,17 +6,18 @@ use Rattle.station.specs.Command.{functions_of, command_of}
 use Rattle.panel.proofs.control.clear.Goals as goal
 
 pub loop-a-init : goal.loop-a-init
-loop-a-init c = (omega arith, cleared-none _)
+loop-a-init c = cleared-none _
 
-pub clear-requires : goal.clear-requires
-clear-requires c = let e = c in
-    let loop = c.loop-a in
-    let few = count-few e.args.b.now e.requires in
-    let kept = cleared-below-kept loop.a e.args.b.now e.requires (omega arith) in record { fact_1 = rw loop.invariant.1 kept.fit; fact_2 = omega arith; fact_3 = rw (loop.invariant.1, kept.same.count) c.loop-a-test.true }
+pub clear-requires-clause-fit_block : goal.clear-requires-clause-fit_block
+clear-requires-clause-fit_block c =
+    let few = count-few c.args.b.now c.requires in
+    rw c.loop-a.invariant (cleared-below-kept c.loop-a.a c.args.b.now c.requires (omega arith)).fit
+
+pub clear-requires-clause-below_r : goal.clear-requires-clause-below_r
+clear-requires-clause-below_r c =
+    let few = count-few c.args.b.now c.requires in
+    rw (c.loop-a.invariant, (cleared-below-kept c.loop-a.a c.args.b.now c.requires (omega arith)).same.count) (omega arith)
 
 pub loop-a-preserved : goal.loop-a-preserved
 unfolding command_of functions_of
-loop-a-preserved c = let e = c in
-    let loop = c.loop-a in
-    let done = c.clear in
-    (omega arith, cleared_more e.args.b.now loop.b done.new.b loop.a done.result loop.invariant.1 done.ensures)
+loop-a-preserved c = cleared_more c.args.b.now c.loop-a.b c.clear.new.b c.loop-a.a c.clear.result c.loop-a.invariant c.clear.ensures

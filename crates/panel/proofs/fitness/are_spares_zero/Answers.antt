@@ -1,20 +1,11 @@
--- `are_spares_zero` meets its contract. The loop's invariant: the words passed are zero.
-use mathlib.Core.Path.{sym}
-use native.Mathlib.Omega.{arith}
-use borrow.Author.Tests.{eq-eqb, ne_eqb}
-use Rattle.kinds.proofs.TestLaws.{every_more, every-false}
-use Rattle.station.specs.Block.{is_fit_spare}
+-- `are_spares_zero` meets its contract: the chain tests each of the 8 spare words.
+use Rattle.std.proofs.Common.{◌≡◌, rules, tests}
+use Rattle.std.proofs.lemmas.Iterator.{YieldsList-from_slice, cases_from_all}
+use Rattle.panel.proofs.FitnessLaws.{all_spares}
 use Rattle.panel.proofs.fitness.are_spares_zero.Goals as goal
 
-pub returns-then-b-i-ne0 : goal.returns-then-b-i-ne0
-unfolding is_fit_spare
-returns-then-b-i-ne0 c = sym (every-false 8 (is_fit_spare c.args.b.now) c.loop-i.i
-    (omega arith) (ne_eqb _ _ c.if-b-i-ne0.true))
-
-pub loop-i-preserved : goal.loop-i-preserved
-unfolding is_fit_spare
-loop-i-preserved c = (
-  omega arith,
-  every_more c.loop-i.i (is_fit_spare c.args.b.now)
-      c.loop-i.invariant.1 (eq-eqb _ _ c.if-b-i-ne0.false),
-)
+pub returns : goal.returns
+returns c =
+    all_spares c.args.b.now c.all.result c.requires
+    (cases_from_all _ _ _ (λ x. x ≡ 0) (λ x. x ≡ 0 → ⊥) c.all.ensures.ran
+    (YieldsList-from_slice _ c.iter.ensures.rest) (λ x q k. search (rules, tests)) (λ x q k. search (rules, tests)))

@@ -25,7 +25,7 @@ run_steps-requires c = record {
   fit_crate = crate-facts _
       (sym c.is_fit_crate.ensures
       ∙ not-false _ c.if-not-is_fit_crate.false-raw);
-  count_in_bounds = (
+  room = (
     omega (arith, c.if-steps-count.false),
     omega (arith, c.if-answers-count.false),
     omega (arith, c.if-buffers-count.false),

@@ -16,4 +16,4 @@ pub returns : goal.returns
 returns c = let pair = step_words _ _ _ _ _ (step_fits _ _ _
     (sym c.is_fit_crate.ensures
     ∙ not-false _ c.if-not-is_fit_crate.false-raw)
-    c.perform_step.ensures.buffer_value) in record { step = pair.0; words = pair.1 }
+    c.perform_step.ensures.done) in record { step = pair.0; words = pair.1 }

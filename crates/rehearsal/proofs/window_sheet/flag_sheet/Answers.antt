@@ -15,6 +15,6 @@ flag_sheet-requires c = crate-facts _ (sym c.is_fit_crate.ensures ∙ not-false 
 pub returns : goal.returns
 returns c = let called = c.flag_sheet.ensures in record {
   sheet = sheet-fits _ _ _ _ _ _ (sym c.is_fit_crate.ensures
-      ∙ not-false _ c.if-not-is_fit_crate.false-raw) called.flags_value;
+      ∙ not-false _ c.if-not-is_fit_crate.false-raw) called.sheet;
   each = called.each;
 }

@@ -1,57 +1,25 @@
--- `modules::read_fields` meets its contract: at each return, what the calls found says which case of the definition holds.
-use mathlib.Core.Path.{◌∙◌}
+-- At each return, what the calls found says which case of the definition holds.
+use Rattle.std.proofs.Common.{rules}
 use Rattle.runfile.specs.Read.{read_module}
-use Rattle.runfile.proofs.Found.{was-absent, was-taken}
+use Rattle.runfile.proofs.Found.{finished}
 use Rattle.runfile.proofs.modules.read_fields.Goals as goal
 
-pub returns-in_default : goal.returns-in_default
+pub returns-in_err-n : goal.returns-in_err-n
 unfolding read_module
-returns-in_default c = let line = c.args.line.now in
-    rw (was-absent line _ c.field_at.ensures c.in_default.is)
+returns-in_err-n c = rw (← c.in_err-n.ensures) (search rules)
 
-pub returns-in_default-field_at : goal.returns-in_default-field_at
+pub returns-in_err-kind : goal.returns-in_err-kind
 unfolding read_module
-returns-in_default-field_at c = let n = c in
-    let line = n.args.line.now in
-    rw (
-      was-taken line _ n.field_at.ensures n.in-Value.is,
-      was-absent line _ c.field_at-2.ensures c.in_default-field_at.is,
-    )
+returns-in_err-kind c = rw (← c.in_ok-n.ensures, ← c.in_err-kind.ensures) (search rules)
 
-pub returns-in_default-field_at-2 : goal.returns-in_default-field_at-2
+pub returns-in_err-r : goal.returns-in_err-r
 unfolding read_module
-returns-in_default-field_at-2 c = let kind = c in
-    let n = kind in
-    let line = n.args.line.now in
-    rw (
-      was-taken line _ n.field_at.ensures n.in-Value.is,
-      was-taken line _ kind.field_at-2.ensures kind.in-Value-field_at.is,
-      was-absent line _ c.field_at-3.ensures c.in_default-field_at-2.is,
-    )
+returns-in_err-r c = rw (← c.in_ok-n.ensures, ← c.in_ok-kind.ensures, ← c.in_err-r.ensures) (search rules)
 
-pub returns-in_default-field_at-3 : goal.returns-in_default-field_at-3
+pub returns-in_err-wide : goal.returns-in_err-wide
 unfolding read_module
-returns-in_default-field_at-3 c = let r = c in
-    let kind = r in
-    let n = kind in
-    let line = n.args.line.now in
-    rw (
-      was-taken line _ n.field_at.ensures n.in-Value.is,
-      was-taken line _ kind.field_at-2.ensures kind.in-Value-field_at.is,
-      was-taken line _ r.field_at-3.ensures r.in-Value-field_at-2.is,
-      was-absent line _ c.field_at-4.ensures c.in_default-field_at-3.is,
-    )
+returns-in_err-wide c = rw (← c.in_ok-n.ensures, ← c.in_ok-kind.ensures, ← c.in_ok-r.ensures, ← c.in_err-wide.ensures) (search rules)
 
 pub returns : goal.returns
 unfolding read_module
-returns c = let wide = c in
-    let r = wide in
-    let kind = r in
-    let n = kind in
-    let line = n.args.line.now in
-    c.end_module_at.ensures ∙ rw (
-      was-taken line _ n.field_at.ensures n.in-Value.is,
-      was-taken line _ kind.field_at-2.ensures kind.in-Value-field_at.is,
-      was-taken line _ r.field_at-3.ensures r.in-Value-field_at-2.is,
-      was-taken line _ wide.field_at-4.ensures wide.in-Value-field_at-3.is,
-    )
+returns c = rw (← c.in_ok-n.ensures, ← c.in_ok-kind.ensures, ← c.in_ok-r.ensures, ← c.in_ok-wide.ensures) (finished _ _ c.is_empty.ensures c.then_some.ensures)

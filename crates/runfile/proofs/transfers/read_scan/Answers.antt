@@ -1,55 +1,21 @@
--- `transfers::read_scan` meets its contract: at each return, what the calls found says which case of the definition holds.
-use mathlib.Core.Path.{◌∙◌}
-use Rattle.text.specs.Text.{bytes}
+-- At each return, what the calls found says which case of the definition holds.
+use Rattle.std.proofs.Common.{rules}
 use Rattle.runfile.specs.Read.{scan_line}
-use Rattle.runfile.proofs.Found.{was-absent, was-headless, was-heads, headed, was-taken}
+use Rattle.runfile.proofs.Found.{finished}
 use Rattle.runfile.proofs.transfers.read_scan.Goals as goal
 
-pub returns-in_default : goal.returns-in_default
+pub returns-in_err-n : goal.returns-in_err-n
 unfolding scan_line
-returns-in_default c = let line = c.args.line.now in
-    let first = c.field_at in
-    let rest = c.head_of in
-    let head = headed line first.result rest.result (bytes "op=scan n=") first.ensures rest.ensures in
-    rw (was-headless line _ head c.in_default.is)
+returns-in_err-n c = rw (← c.in_err-n.ensures) (search rules)
 
-pub returns-in_default-field_at : goal.returns-in_default-field_at
+pub returns-in_err-to : goal.returns-in_err-to
 unfolding scan_line
-returns-in_default-field_at c = let n = c in
-    let line = n.args.line.now in
-    let first = n.field_at in
-    let rest = n.head_of in
-    let head = headed line first.result rest.result (bytes "op=scan n=") first.ensures rest.ensures in
-    rw (
-      was-heads line _ head n.in-Fields.is,
-      was-absent line _ c.field_at-2.ensures c.in_default-field_at.is,
-    )
+returns-in_err-to c = rw (← c.in_ok-n.ensures, ← c.in_err-to.ensures) (search rules)
 
-pub returns-in_default-field_at-2 : goal.returns-in_default-field_at-2
+pub returns-in_err-limit : goal.returns-in_err-limit
 unfolding scan_line
-returns-in_default-field_at-2 c = let to = c in
-    let n = to in
-    let line = n.args.line.now in
-    let first = n.field_at in
-    let rest = n.head_of in
-    let head = headed line first.result rest.result (bytes "op=scan n=") first.ensures rest.ensures in
-    rw (
-      was-heads line _ head n.in-Fields.is,
-      was-taken line _ to.field_at-2.ensures to.in-Value.is,
-      was-absent line _ c.field_at-3.ensures c.in_default-field_at-2.is,
-    )
+returns-in_err-limit c = rw (← c.in_ok-n.ensures, ← c.in_ok-to.ensures, ← c.in_err-limit.ensures) (search rules)
 
 pub returns : goal.returns
 unfolding scan_line
-returns c = let limit = c in
-    let to = limit in
-    let n = to in
-    let line = n.args.line.now in
-    let first = n.field_at in
-    let rest = n.head_of in
-    let head = headed line first.result rest.result (bytes "op=scan n=") first.ensures rest.ensures in
-    c.end_at.ensures ∙ rw (
-      was-heads line _ head n.in-Fields.is,
-      was-taken line _ to.field_at-2.ensures to.in-Value.is,
-      was-taken line _ limit.field_at-3.ensures limit.in-Value-field_at.is,
-    )
+returns c = rw (← c.in_ok-n.ensures, ← c.in_ok-to.ensures, ← c.in_ok-limit.ensures) (finished _ _ c.is_empty.ensures c.then_some.ensures)

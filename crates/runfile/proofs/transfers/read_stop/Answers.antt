@@ -1,39 +1,17 @@
--- `transfers::read_stop` meets its contract: at each return, what the calls found says which case of the definition holds.
-use mathlib.Core.Path.{◌∙◌}
-use Rattle.text.specs.Text.{bytes}
+-- At each return, what the calls found says which case of the definition holds.
+use Rattle.std.proofs.Common.{rules}
 use Rattle.runfile.specs.Read.{stop_line}
-use Rattle.runfile.proofs.Found.{was-absent, was-headless, was-heads, headed, was-taken}
+use Rattle.runfile.proofs.Found.{finished}
 use Rattle.runfile.proofs.transfers.read_stop.Goals as goal
 
-pub returns-in_default : goal.returns-in_default
+pub returns-in_err-n : goal.returns-in_err-n
 unfolding stop_line
-returns-in_default c = let line = c.args.line.now in
-    let first = c.field_at in
-    let rest = c.head_of in
-    let head = headed line first.result rest.result (bytes "op=stop n=") first.ensures rest.ensures in
-    rw (was-headless line _ head c.in_default.is)
+returns-in_err-n c = rw (← c.in_err-n.ensures) (search rules)
 
-pub returns-in_default-field_at : goal.returns-in_default-field_at
+pub returns-in_err-limit : goal.returns-in_err-limit
 unfolding stop_line
-returns-in_default-field_at c = let n = c in
-    let line = n.args.line.now in
-    let first = n.field_at in
-    let rest = n.head_of in
-    let head = headed line first.result rest.result (bytes "op=stop n=") first.ensures rest.ensures in
-    rw (
-      was-heads line _ head n.in-Fields.is,
-      was-absent line _ c.field_at-2.ensures c.in_default-field_at.is,
-    )
+returns-in_err-limit c = rw (← c.in_ok-n.ensures, ← c.in_err-limit.ensures) (search rules)
 
 pub returns : goal.returns
 unfolding stop_line
-returns c = let limit = c in
-    let n = limit in
-    let line = n.args.line.now in
-    let first = n.field_at in
-    let rest = n.head_of in
-    let head = headed line first.result rest.result (bytes "op=stop n=") first.ensures rest.ensures in
-    c.end_at.ensures ∙ rw (
-      was-heads line _ head n.in-Fields.is,
-      was-taken line _ limit.field_at-2.ensures limit.in-Value.is,
-    )
+returns c = rw (← c.in_ok-n.ensures, ← c.in_ok-limit.ensures) (finished _ _ c.is_empty.ensures c.then_some.ensures)

@@ -1,57 +1,25 @@
--- `transfers::read_within` meets its contract: at each return, what the calls found says which case of the definition holds.
-use mathlib.Core.Path.{◌∙◌}
+-- At each return, what the calls found says which case of the definition holds.
+use Rattle.std.proofs.Common.{rules}
 use Rattle.runfile.specs.Read.{within_line}
-use Rattle.runfile.proofs.Found.{was-absent, was-taken}
+use Rattle.runfile.proofs.Found.{finished}
 use Rattle.runfile.proofs.transfers.read_within.Goals as goal
 
-pub returns-in_default : goal.returns-in_default
+pub returns-in_err-n : goal.returns-in_err-n
 unfolding within_line
-returns-in_default c = let line = c.args.line.now in
-    rw (was-absent line _ c.field_at.ensures c.in_default.is)
+returns-in_err-n c = rw (← c.in_err-n.ensures) (search rules)
 
-pub returns-in_default-field_at : goal.returns-in_default-field_at
+pub returns-in_err-to : goal.returns-in_err-to
 unfolding within_line
-returns-in_default-field_at c = let n = c in
-    let line = n.args.line.now in
-    rw (
-      was-taken line _ n.field_at.ensures n.in-Value.is,
-      was-absent line _ c.field_at-2.ensures c.in_default-field_at.is,
-    )
+returns-in_err-to c = rw (← c.in_ok-n.ensures, ← c.in_err-to.ensures) (search rules)
 
-pub returns-in_default-field_at-2 : goal.returns-in_default-field_at-2
+pub returns-in_err-lo : goal.returns-in_err-lo
 unfolding within_line
-returns-in_default-field_at-2 c = let to = c in
-    let n = to in
-    let line = n.args.line.now in
-    rw (
-      was-taken line _ n.field_at.ensures n.in-Value.is,
-      was-taken line _ to.field_at-2.ensures to.in-Value-field_at.is,
-      was-absent line _ c.field_at-3.ensures c.in_default-field_at-2.is,
-    )
+returns-in_err-lo c = rw (← c.in_ok-n.ensures, ← c.in_ok-to.ensures, ← c.in_err-lo.ensures) (search rules)
 
-pub returns-in_default-field_at-3 : goal.returns-in_default-field_at-3
+pub returns-in_err-hi : goal.returns-in_err-hi
 unfolding within_line
-returns-in_default-field_at-3 c = let lo = c in
-    let to = lo in
-    let n = to in
-    let line = n.args.line.now in
-    rw (
-      was-taken line _ n.field_at.ensures n.in-Value.is,
-      was-taken line _ to.field_at-2.ensures to.in-Value-field_at.is,
-      was-taken line _ lo.field_at-3.ensures lo.in-Value-field_at-2.is,
-      was-absent line _ c.field_at-4.ensures c.in_default-field_at-3.is,
-    )
+returns-in_err-hi c = rw (← c.in_ok-n.ensures, ← c.in_ok-to.ensures, ← c.in_ok-lo.ensures, ← c.in_err-hi.ensures) (search rules)
 
 pub returns : goal.returns
 unfolding within_line
-returns c = let hi = c in
-    let lo = hi in
-    let to = lo in
-    let n = to in
-    let line = n.args.line.now in
-    c.end_at.ensures ∙ rw (
-      was-taken line _ n.field_at.ensures n.in-Value.is,
-      was-taken line _ to.field_at-2.ensures to.in-Value-field_at.is,
-      was-taken line _ lo.field_at-3.ensures lo.in-Value-field_at-2.is,
-      was-taken line _ hi.field_at-4.ensures hi.in-Value-field_at-3.is,
-    )
+returns c = rw (← c.in_ok-n.ensures, ← c.in_ok-to.ensures, ← c.in_ok-lo.ensures, ← c.in_ok-hi.ensures) (finished _ _ c.is_empty.ensures c.then_some.ensures)

@@ -4,9 +4,9 @@ use native.Mathlib.Omega.{arith}
 use Rattle.text.proofs.Paste.{put_first}
 use Rattle.shell.proofs.arguments.files_named.Goals as goal
 
-pub returns-then-count-le1 : goal.returns-then-count-le1
-returns-then-count-le1 g c = λ e. record {
+pub returns-in-0 : goal.returns-in-0
+returns-in-0 g c = record {
   first-within = omega arith;
   second-within = omega arith;
-  names = inl (put_first c.put_bytes-m.ensures, put_first c.put_bytes-n.ensures);
+  names = inl (put_first c.put_bytes.ensures, put_first c.put_bytes-in-0.ensures);
 }

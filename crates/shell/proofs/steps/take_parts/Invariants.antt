@@ -3,11 +3,8 @@ use Rattle.listfile.specs.Listing.{state_of, Held}
 use Rattle.shell.specs.Handed.{Listed}
 use Rattle.shell.proofs.steps.take_parts.Given as goal
 
-abbrev pub invariant-loop-turns : goal.invariant-loop-turns
-invariant-loop-turns g l = record {
+abbrev pub invariant-loop : goal.invariant-loop
+invariant-loop g l = record {
   held : Held l.r l.line l.words;
   listed : Listed (state_of l.r l.line l.words);
 }
-
-abbrev pub decreases-loop-turns : goal.decreases-loop-turns
-decreases-loop-turns g l = l.turns

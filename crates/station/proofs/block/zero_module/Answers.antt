@@ -8,6 +8,6 @@ use Rattle.station.proofs.block.zero_module.Goals as goal
 pub returns : goal.returns
 returns c = let entry = c.args in
     let b = entry.b.now in
-    tail-zeroed (with_fill (with_head (with_mask (with_status b entry.status) entry.mask) 0) 0) c.zero.new.s
-    (simp length-set c.requires) c.zero.ensures
+    tail-zeroed (with_fill (with_head (with_mask (with_status b entry.status) entry.mask) 0) 0) c.fill.new.self
+    (simp length-set c.requires) (c.fill.ensures.after (λ y e. e))
     ∙ header-zeroed b entry.status entry.mask c.requires

@@ -1,15 +1,14 @@
--- `put_word` meets its contract: what it offers is `limit` words, each w.
+-- `put_word` meets its contract: the first `limit` of 512 words that are all w are `limit` words, each w.
 -- Assumes nothing.
-use mathlib.Core.Path.{refl}
+use Prim.Native.Nat.{◌≤◌}
 use native.Mathlib.Omega.{arith}
-use Rattle.transfer.proofs.Putting.{same-offered}
+use lib.ListN.{length-replicate}
+use Rattle.std.proofs.lemmas.List.{take-replicate}
+use Rattle.transfer.proofs.Putting.{same-narrow}
 use Rattle.transfer.proofs.put.put_word.Goals as goal
 
-pub put-requires : goal.put-requires
-put-requires c = let x = c.args in
-    let o = same-offered _ x.limit x.w refl (omega arith) (omega arith) in record { fit_crate = c.requires.fit_crate; le_n = (omega arith, omega arith, omega arith, omega arith, omega arith, omega arith, o.1); by_index = o.2 }
+pub put-requires-clause-narrow : goal.put-requires-clause-narrow
+put-requires-clause-narrow c = let l : c.args.limit ≤ 512 = omega arith in rw take-replicate (same-narrow c.args.limit c.args.w (omega arith))
 
 pub returns : goal.returns
-returns c = let x = c.args in
-    let o = same-offered _ x.limit x.w refl (omega arith) (omega arith) in
-    rw (← o.0) (record { answer = c.put.ensures.answer; memory = c.put.ensures.memory })
+returns c = let l : c.args.limit ≤ 512 = omega arith in rw (take-replicate, length-replicate) at c.put.ensures

@@ -1,0 +1,14 @@
+-- `are_stations_fit` meets its contract: `all` makes the test of each number below 23.
+use mathlib.Core.Path.{refl, ◌∙◌}
+use borrow.Author.Rules.{rules}
+use borrow.Author.Tests.{tests}
+use Rattle.std.proofs.lemmas.Iterator.{YieldsList-from_range}
+use Rattle.std.proofs.lemmas.Iterator.Search.{all_from_yields_List}
+use Rattle.dataway.specs.Crate.{is_fit_station}
+use Rattle.dataway.proofs.EveryLaws.{all-below}
+use Rattle.dataway.proofs.fitness.are_stations_fit.Goals as goal
+
+pub returns : goal.returns
+returns c =
+    all_from_yields_List (is_fit_station c.args.memory.now) _ _ _ c.all.ensures.ran (YieldsList-from_range 0 23 23 refl refl) (λ x b q k. search (rules, tests))
+    ∙ all-below (is_fit_station c.args.memory.now) 23

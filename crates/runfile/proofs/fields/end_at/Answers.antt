@@ -1,9 +1,0 @@
--- `fields::end_at` meets its contract: the test says whether anything is left of the line.
-use mathlib.Core.Path.{sym}
-use native.Mathlib.Omega.{arith}
-use Rattle.runfile.proofs.Turns.{ended-no}
-use Rattle.runfile.proofs.fields.end_at.Goals as goal
-
-pub returns-then-at-line : goal.returns-then-at-line
-returns-then-at-line c = let a = c.args in
-    sym (ended-no a.line.now a.at a.step (omega arith))

@@ -1,9 +1,0 @@
--- `step::judge_put_lent` meets its contract: what its calls promise, put into one another, is the list of fields of `put_lent_verdict`.
--- Assumes nothing.
-use Rattle.step.proofs.Rows.{row-then}
-use Rattle.step.specs.Verdict.{put_lent_verdict}
-use Rattle.step.proofs.judge_put_lent.Goals as goal
-
-pub returns : goal.returns
-unfolding put_lent_verdict
-returns c = search row-then

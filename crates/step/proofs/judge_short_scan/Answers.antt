@@ -1,9 +1,0 @@
--- `step::judge_short_scan` meets its contract: what its calls promise, put into one another, is the list of fields of `short_scan_verdict`.
--- Assumes nothing.
-use Rattle.step.proofs.Rows.{row-then}
-use Rattle.step.specs.Verdict.{short_scan_verdict}
-use Rattle.step.proofs.judge_short_scan.Goals as goal
-
-pub returns : goal.returns
-unfolding short_scan_verdict
-returns c = search row-then depth 9
