@@ -35,7 +35,7 @@ fn words_end(words: &[u8]) -> usize
 }
 
 // Says what comes of an error, and why it came.
-pub fn say_reason(err: &impl Print, so: &[u8], why: &io::Error) {
+pub(crate) fn say_reason(err: &impl Print, so: &[u8], why: &io::Error) {
     let mut words = Words {
         bytes: [0; ROOM],
         end: 0,
