@@ -131,10 +131,11 @@ fn make_room(
     Ok(Reader { at: 0, ..s })
 }
 
-// Takes all of text, unless the output fails.
+// Takes all of text, unless the output fails. What was read may have lines past the last that is read all the same, and that is said.
 fn take_text(
     rt: &impl Print,
     err: &impl Print,
+    path: &[u8],
     text: &[u8],
     s: Reader,
     line: &mut [u8],
@@ -150,7 +151,13 @@ fn take_text(
     let mut from = 0;
     // A `while`: a turn goes on behind what there was room for.
     while from < text.len() {
-        let room = make_room(rt, err, r, line, memory, out)?;
+        let room = match make_room(rt, err, r, line, memory, out) {
+            Ok(room) => room,
+            Err(unwritten) => {
+                let _ = goes_on(err, path, text, s, r);
+                return Err(unwritten);
+            }
+        };
         let p = reader::chunk_lines(&text[from..], room, line, memory, out);
         from += p.next;
         r = p.reader;
@@ -198,7 +205,7 @@ fn take_open(
         let Some(n @ 1..) = read_some(file, err, path, text, UNREAD) else {
             return Ok(r);
         };
-        r = take_text(rt, err, &text[..n], before, line, memory, out)?;
+        r = take_text(rt, err, path, &text[..n], before, line, memory, out)?;
         if !goes_on(err, path, &text[..n], before, r) {
             return Ok(r);
         }

@@ -1,4 +1,4 @@
--- When two steps are equal: told by their words, by the numbers of their refusals, and by the words that a list has for them.
+-- When the steps of two lists are equal: told by what they count as.
 -- Assumes nothing.
 use mathlib.Core.Path.{◌≡◌, sym, ◌∙◌}
 use mathlib.Core.Bool.{Bool}
