@@ -4,7 +4,7 @@ ghost use Rattle.std.specs.List.{list_all};
 ghost use Rattle.step.specs.Modules.{order_then, covered_then, module_then};
 ghost use Rattle.step.specs.Verdict.{within, unless, station_then, subaddress_then, function_then, transfer_then, word_then, inhibit_then};
 ghost use Rattle.step.specs.Verdict.{range_then, limit_then, long_then, tries_then, lent_then, offered_then};
-ghost use Rattle.step.specs.Verdict.{places_of, window_then, room_then};
+ghost use Rattle.step.specs.Verdict.{places_of, crossed_then, window_then, room_then};
 ghost use Rattle.step.specs.Verdict.{command_station_then, command_word_then};
 
 use crate::{Entry, Refusal};
@@ -153,13 +153,19 @@ pub(crate) fn room_for(limit: u32, lent: usize) -> Result<(), Refusal>
     ensure(limit as usize <= lent, Refusal::ShortBuffer)
 }
 
+pub fn crossed(lo: u32, hi: u32) -> Result<(), Refusal>
+    ensures { result ≡ crossed_then lo hi (Ok tt) }
+{
+    ensure(lo <= hi, Refusal::CrossedWindow)
+}
+
 // A window from lo to hi: 5 for lo, 5 for hi, then 14.
 pub fn window(lo: u32, hi: u32) -> Result<(), Refusal>
     ensures { result ≡ window_then lo hi (Ok tt) }
 {
     word(lo)?;
     word(hi)?;
-    ensure(lo <= hi, Refusal::CrossedWindow)
+    crossed(lo, hi)
 }
 
 // How many subaddresses the stations n to `to` have: 16 each, none where `to` is below n.
