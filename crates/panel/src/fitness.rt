@@ -61,13 +61,17 @@ fn is_fit_register(b: &[u32], i: usize) -> bool
     fits_bits(word, 24) && (is_used(b, i) || word == 0)
 }
 
-// Words 16 to 31.
+// Words 16 to 31. The arms read alike, but each is compiled with the test of its own kinds alone: so the kind is asked once, and not for each register.
 fn are_registers_fit(b: &[u32]) -> bool
     requires block_len { length b.now ≡ 32 }
     requires head_bound { head_of b.now < 16 }
     ensures { result ≡ every 16 (is_fit_register b.now) }
 {
-    (0..16).all(|i| is_fit_register(b, i))
+    if b[KIND] == BUFFER_MEMORY {
+        (0..16).all(|i| is_fit_register(b, i))
+    } else {
+        (0..16).all(|i| is_fit_register(b, i))
+    }
 }
 
 // The whole block.
