@@ -25,13 +25,13 @@ pub fn repeat(
 {
     let span = dataway::accepted(memory, n, f);
     let mut words: u32 = 0;
-    for cycles in 1..=tries {
+    for tried in 0..tries {
         let reply = dataway::cycle(memory, span, n, a, f);
         if reply.x != 1 {
             return Transfer {
                 end: NOT_ACCEPTED,
                 words,
-                cycles,
+                cycles: tried + 1,
             };
         }
         if reply.q == 1 {
@@ -41,7 +41,7 @@ pub fn repeat(
                 return Transfer {
                     end: LIMIT_REACHED,
                     words,
-                    cycles,
+                    cycles: tried + 1,
                 };
             }
         }
