@@ -33,13 +33,21 @@ pub fn class_number(class: Class) -> u32
     class as u32
 }
 
-// The table's digit for a kind at function f.
+// The table's digit for a kind at function f. Each arm reads its own row, so that the one choice by kind that a command makes also serves its sources.
 fn digit(kind: u32, f: u32) -> u8
     requires kind { kind < 6 }
     requires f_bound { f < 32 }
     ensures { result ≡ digit_of (class_of kind f) }
 {
-    CLASSES[kind as usize][f as usize]
+    let i = f as usize;
+    match kind {
+        0 => CLASSES[0][i],
+        1 => CLASSES[1][i],
+        2 => CLASSES[2][i],
+        3 => CLASSES[3][i],
+        4 => CLASSES[4][i],
+        _ => CLASSES[5][i],
+    }
 }
 
 // The class of a kind at function f: that of the table's digit. A conversion From a byte would have to give the bytes that are no digit a class too.

@@ -33,7 +33,7 @@ pub fn command_many(memory: &mut [u32], pattern: u32, a: u32, f: u32, w: u32) ->
     ensures { many_of memory.old pattern a f w ≡ record { memory = memory.new; reply = result } }
 {
     let mut reply = NOT_ACCEPTED;
-    for n in 1..=STATIONS as u32 {
+    for n in 1..1 + STATIONS as u32 {
         if bit(pattern, n - 1) == 1 {
             reply = join(reply, command(memory, n, a, f, w));
         }

@@ -11,7 +11,7 @@ pub fn initialize(memory: &mut [u32])
     requires { FitCrate memory.old }
     ensures { memory.new ≡ after_z memory.old }
 {
-    for n in 1..=STATIONS {
+    for n in 1..1 + STATIONS {
         panel::control::initialize(&mut memory[block(n)]);
     }
     memory[INHIBIT] = 1;
@@ -23,7 +23,7 @@ pub fn clear(memory: &mut [u32])
     requires { FitCrate memory.old }
     ensures { memory.new ≡ after_c memory.old }
 {
-    for n in 1..=STATIONS {
+    for n in 1..1 + STATIONS {
         panel::control::clear(&mut memory[block(n)]);
     }
 }
