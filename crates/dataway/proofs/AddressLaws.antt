@@ -40,13 +40,13 @@ module _ (pattern a f w : ℕ) where
   abbrev pub Turn : (m : List ℕ) (n : ℕ) (r : Reply) (m' : List ℕ) (r' : Reply) → Type 0
   Turn m n r m' r' = (m' ≡ with_block m n (command_where pattern a f w n (block_of m n))) × (r' ≡ joined_where pattern n r (reply_of m n a f w))
 
-  -- a station that is not addressed keeps its block
-  pub where-off : (m : List ℕ) (n : ℕ) (r : Reply) (m' : List ℕ) (r' : Reply) → length m ≡ 768 → n ≤ 23 → (bit_of (n - 1) pattern ≡ 1 → ⊥) → m' ≡ m → r' ≡ r
-      → Turn m n r m' r'
+  -- a station that is not addressed keeps its block, and adds nothing to the answer, whatever its own would be
+  pub where-off : (m : List ℕ) (n : ℕ) (r t : Reply) (m' : List ℕ) (r' : Reply) → length m ≡ 768 → n ≤ 23 → (bit_of (n - 1) pattern ≡ 1 → ⊥) → m' ≡ m → r' ≡ r
+      → (m' ≡ with_block m n (command_where pattern a f w n (block_of m n))) × (r' ≡ joined_where pattern n r t)
   unfolding command_where
-  where-off m n r m' r' size hi d e g =
+  where-off m n r t m' r' size hi d e g =
       let off : is_addressed pattern n ≡ false = ne_eqb _ 1 d in
-      (rw (e, off) (sym (put-block m n size (omega arith))), g ∙ ap (λ (u : Bool). cond u (joined r (reply_of m n a f w)) r) (sym off))
+      (rw (e, off) (sym (put-block m n size (omega arith))), g ∙ ap (λ (u : Bool). cond u (joined r t) r) (sym off))
 
   -- one that is gets the command
   pub where-on : (m : List ℕ) (n : ℕ) (r : Reply) (m' : List ℕ) (r' : Reply) → bit_of (n - 1) pattern ≡ 1 → m' ≡ after_command m n a f w

@@ -3,6 +3,7 @@ use Prim.Native.Nat.{◌-◌}
 use mathlib.Core.Path.{◌≡◌, sym, ap, ◌∙◌}
 use native.Mathlib.Omega.{arith}
 use Rattle.dataway.specs.Addressed.{joined, command_where}
+use Rattle.dataway.specs.Stations.{reply_of}
 use Rattle.dataway.proofs.ControlLaws.{each_so_far, each_none}
 use Rattle.dataway.proofs.AddressLaws.{Turn, where-kept, where-off, where-on, replies-none, many-more}
 use Rattle.dataway.proofs.address.command_many.Goals.{then-bit-eq1, else-bit-eq1}
@@ -27,7 +28,7 @@ loop-n-preserved c =
           where-on _ _ _ _ _ _ _ _ _ (sym c.bit.ensures ∙ w.if-bit-eq1.true) (w.memory-is ∙ told.memory)
           (w.reply-is ∙ w.join-reply.ensures ∙ ap (joined _) told.answer)
       | else-bit-eq1 w ↦
-          where-off _ _ _ _ _ _ _ _ _ (c.loop-n.auto.memory ∙ fits.fit_crate.size) (omega arith)
+          where-off _ _ _ _ _ _ _ (reply_of c.loop-n.memory c.loop-n.n c.args.a c.args.f c.args.w) _ _ (c.loop-n.auto.memory ∙ fits.fit_crate.size) (omega arith)
           (λ e. w.if-bit-eq1.false (c.bit.ensures ∙ e)) w.memory-is w.reply-is
     ] in
     let next = many-more _ _ _ _ fits.fields.0 fits.fields.2 _ fits.fit_crate c.loop-n.n _ _ _ _ (omega arith) (omega arith) before.memory before.reply turn in
