@@ -4,5 +4,5 @@
 use Rattle.transfer.proofs.Repeating.{Repeating}
 use Rattle.transfer.proofs.repeat.repeat.Given as goal
 
-abbrev pub invariant-loop-cycles : goal.invariant-loop-cycles
-invariant-loop-cycles l = Repeating l.n l.a l.f l.limit l.tries l.span l.fn.memory l.fn.buffer l.memory l.buffer l.words l.cycles
+abbrev pub invariant-loop-tried : goal.invariant-loop-tried
+invariant-loop-tried l = Repeating l.n l.a l.f l.limit l.tries l.span l.fn.memory l.fn.buffer l.memory l.buffer l.words l.tried
