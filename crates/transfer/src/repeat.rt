@@ -8,6 +8,7 @@ ghost use Rattle.transfer.specs.Repeat.{repeat_of};
 use crate::{CUT_SHORT, LIMIT_REACHED, NOT_ACCEPTED, Transfer};
 
 // The limit comes first: a word that reaches it on the last try is end 1. X = 0 on the last try is end 3.
+// Each way out adds its own cycle to the tries before it: LLVM keeps a `let cycles = tried + 1` beside them, or an inclusive range, at three instructions a turn.
 pub fn repeat(
     memory: &mut [u32],
     buffer: &mut [u32],
