@@ -1,4 +1,4 @@
--- `clear` meets its contract: each station's block is lent in turn.
+-- `clear_stations` meets its contract: each station's block is lent in turn.
 use Prim.Native.Nat.{◌-◌}
 use mathlib.Core.Path.{◌≡◌}
 use native.Mathlib.Omega.{arith}
@@ -7,7 +7,7 @@ use Rattle.dataway.proofs.ControlLaws.{each_so_far, each_more, each_none}
 use Rattle.dataway.specs.Controls.{after_c}
 use Rattle.station.specs.Control.{cleared_of}
 use Rattle.station.proofs.ControlLaws.{cleared-kept}
-use Rattle.dataway.proofs.control.clear.Goals as goal
+use Rattle.dataway.proofs.control.clear_stations.Goals as goal
 
 pub loop-n-init : goal.loop-n-init
 loop-n-init c = each_none (λ n. cleared_of) _
