@@ -64,7 +64,8 @@ fn step_words(words: &[u32], k: usize) -> &[u32]
     &words[at..at + STEP_WORDS]
 }
 
-// What step k of a list counts as.
+// What step k of a list counts as. Inlined, so that the step is not handed back through memory at each place that a watch looks at.
+#[inline(always)]
 #[tactic(auto, using(crate::proofs::CountedLaws::bad_counts))]
 fn step_at(words: &[u32], k: usize, lent: &[u32]) -> Result<Step, Refusal>
     requires { (k < count words.now) × Zeros lent.now }
