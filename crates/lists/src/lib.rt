@@ -19,8 +19,7 @@ pub const ANSWER_WORDS: usize = 4;
 
 pub const BUFFER_WORDS: usize = 512;
 
-// The step of six words; words past its fields are not looked at. Inlined, so that the step is not handed back through memory: a short step of a list took up
-// to seven times as long without.
+// The step of six words; words past its fields are not looked at. Inlined, so that the step is not handed back through memory.
 #[inline(always)]
 #[tactic(auto, unfolding(crate::specs::Words::reading_of, crate::specs::Words::kinds_of))]
 pub fn read_step(words: &[u32]) -> Result<Step, Refusal>

@@ -99,7 +99,7 @@ pub(crate) fn command_word(n: u32, a: u32, f: u32, w: u32) -> Result<(), Refusal
 }
 
 // None of the first `limit` words is above 24 bits. They are cut off first: `take` would count them beside the slice.
-// Not inlined: among the rows of the other steps a word took twice as long.
+// Not inlined: among the rows of the other steps each word costs more.
 #[inline(never)]
 fn are_narrow(words: &[u32], limit: usize) -> bool
     ensures { result ≡ list_all (λ w. nat_le w WIDEST_WORD) (take limit words.now) }

@@ -11,7 +11,7 @@ const OVERWRITE: u32 = 16;
 
 // The loop over stations and subaddresses is left from inside when all words offered are used up. It is not one with the scan's: one for both would need a
 // closure that holds the memory and the buffer, and a span that the put never asks for.
-// Not inlined: among the other steps, and once for each of the two puts, a cycle took a quarter more.
+// Not inlined: among the other steps each cycle costs more.
 #[inline(never)]
 pub fn put(memory: &mut [u32], offered: &[u32], n: u32, a: u32, to: u32) -> Transfer
     requires fit_crate { FitCrate memory.old }
